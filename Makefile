@@ -1,0 +1,13 @@
+# make test: everything that decides whether a change may land. make demo: what the register's ground tells of one day.
+# make bench: the calendar check and the names against an independent implementation.
+.PHONY: test demo bench
+
+test:
+	@bash tests/run
+
+demo:
+	@rt check demo >&2
+	@cd crates/demo/data && ../../../target/bin/demo
+
+bench:
+	@bash bench/run

@@ -1,0 +1,74 @@
+//! Printing what was measured.
+
+use crate::contest::BATCHES;
+
+/// Times of a case, in nanoseconds.
+pub struct Row {
+    pub case: &'static str,
+    pub sindhopul: f64,
+    pub independent: f64,
+    pub yardstick: Option<f64>,
+}
+
+impl Row {
+    /// A case without yardstick, whose work was done on so many things at once.
+    pub fn of_each(case: &'static str, things: usize, times: [f64; 2]) -> Self {
+        let [sindhopul, independent] = times.map(|time| time / things as f64);
+        Self {
+            case,
+            sindhopul,
+            independent,
+            yardstick: None,
+        }
+    }
+
+    fn cells(&self) -> [String; 6] {
+        let times_yardstick = self.yardstick.map(|yardstick| self.sindhopul / yardstick);
+        [
+            self.case.to_string(),
+            format!("{:.1}", self.sindhopul),
+            format!("{:.1}", self.independent),
+            format!("{:.2}", self.sindhopul / self.independent),
+            cell(self.yardstick),
+            cell(times_yardstick),
+        ]
+    }
+}
+
+fn cell(value: Option<f64>) -> String {
+    value.map_or("-".to_string(), |value| format!("{value:.1}"))
+}
+
+const HEADING: [&str; 6] = [
+    "case",
+    "sindhopul ns",
+    "independent ns",
+    "ratio",
+    "yardstick ns",
+    "times yardstick",
+];
+
+const NOTES: &str = "\
+Ratio: sindhopul to independent, whose names go through std's formatting and parsing.
+Yardstick: the sum of the calendar's bytes read as 64-bit words.
+Holidays: 1 and 6 January, Good Friday, Easter Monday, 1 and 3 May, 15 August,
+  1 and 11 November, 24 to 26 and 31 December.
+Empty weeks: the same calendar without the sessions from the second Monday of
+  every month to its Friday, so that with the weekends nine days have none.
+Third Fridays only: the one session of a window is at its end.";
+
+pub fn print(rows: &[Row]) {
+    println!("Best of {BATCHES} batches.");
+    print_cells(HEADING.map(String::from));
+    for row in rows {
+        print_cells(row.cells());
+    }
+    println!("{NOTES}");
+}
+
+fn print_cells([case, times @ ..]: [String; 6]) {
+    println!(
+        "{case:<32}{}",
+        times.map(|time| format!("{time:>16}")).concat()
+    );
+}

@@ -1,0 +1,31 @@
+-- `calendar::has_session` meets its contract: a shift is a division by the weight.
+-- Assumes nothing.
+use mathlib.Core.Path.{sym}
+use borrow.Author.Needs.{needs}
+use Rattle.calendar.specs.Calendar.{session}
+use Rattle.calendar.proofs.Laws.{no-session}
+use Rattle.calendar.proofs.has_session.Statement.{statement}
+use Rattle.calendar.proofs.has_session.Tie as tie
+
+cast-at : tie.Need-cast-at
+cast-at c = search needs
+
+shared-slice-read-result : tie.Need-shared-slice-read-result
+shared-slice-read-result c = search needs
+
+cast-result : tie.Need-cast-result
+cast-result c = search needs
+
+shr-result : tie.Need-shr-result
+shr-result c = search needs
+
+returns : tie.Need-returns
+unfolding session
+returns c = search needs
+
+returns-2 : tie.Need-returns-2
+returns-2 c = sym (no-session _ _ (c .if1 .left))
+
+pub has-session-spec : {M : Type 1} → statement M
+has-session-spec =
+    tie.close (tie.spec cast-at shared-slice-read-result cast-result shr-result returns returns-2)

@@ -1,0 +1,35 @@
+-- Document 01, "Live months and tiers".
+-- Assumes nothing.
+use mathlib.Core.Bool.{Bool, cond}
+use mathlib.Core.List.{List, [], _∷_}
+use Prim.Native.Nat.{ℕ, _+_, _%_}
+use lib.Dec.{eqb, leb}
+use Rattle.base.specs.Search.{firstIn}
+use Rattle.base.specs.declared.Tier.{Tier}
+use Rattle.base.specs.declared.Tier.the-variants.{N, M, F}
+use Rattle.dates.specs.Months.{monthCount}
+use Rattle.calendar.specs.Calendar.{expiryOf}
+
+-- month m's expiry date is day d or later
+unfoldable pub unexpired : List ℕ → ℕ → ℕ → Bool
+unexpired cal d m = leb d (expiryOf cal m)
+
+-- the first live month on day d: the earliest whose expiry date is d or later; after month 1,199's expiry date, 1,200
+unfoldable pub firstLive : List ℕ → ℕ → ℕ
+firstLive cal d = firstIn (unexpired cal d) 0 monthCount
+
+-- month m is March, June, September or December
+unfoldable pub quarterly : ℕ → Bool
+quarterly m = eqb (m % 3) 2
+
+-- the first quarterly month that follows the month f and the two after it
+unfoldable pub nextQuarter : ℕ → ℕ
+nextQuarter f = firstIn quarterly (f + 3) (f + 6)
+
+-- the six live months where f is the first: f, the next two calendar months, and the three quarterly months that follow these
+unfoldable pub liveMonths : ℕ → List ℕ
+liveMonths f = f ∷ (f + 1) ∷ (f + 2) ∷ nextQuarter f ∷ (nextQuarter f + 3) ∷ (nextQuarter f + 6) ∷ []
+
+-- the tier of month m where f is the first live month: the first is tier N, the next two tier M, the last three tier F
+unfoldable pub tierOf : ℕ → ℕ → Tier
+tierOf f m = cond (leb m f) N (cond (leb m (f + 2)) M F)

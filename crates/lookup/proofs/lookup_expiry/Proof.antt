@@ -1,0 +1,28 @@
+-- `lookup::lookup_expiry` meets its contract: the guard is the contract's test, and `calendar` answers within it.
+-- Assumes nothing.
+use borrow.Author.Needs.{needs}
+use borrow.Author.Tests.{lt-ltb, le-ltb}
+use Rattle.lookup.proofs.lookup_expiry.Statement.{statement}
+use Rattle.lookup.proofs.lookup_expiry.Tie as tie
+
+cast-if1 : tie.Need-cast-if1
+cast-if1 c = search needs
+
+cast-expiry : tie.Need-cast-expiry
+cast-expiry c = search needs
+
+expiry-requires : tie.Need-expiry-requires
+expiry-requires c κs = search needs
+
+cast-result : tie.Need-cast-result
+cast-result c = search needs
+
+returns : tie.Need-returns
+returns c = rw (lt-ltb _ _ (c .before .if1 .taken)) (c .expiry .ensures)
+
+returns-2 : tie.Need-returns-2
+returns-2 c = rw (le-ltb _ _ (c .if1 .left))
+
+pub lookup-expiry-spec : {M : Type 1} → statement M
+lookup-expiry-spec =
+    tie.close (tie.spec cast-if1 cast-expiry expiry-requires cast-result returns returns-2)

@@ -1,0 +1,45 @@
+-- `lookup::lookup_first_live` meets its contract: the check's number is the calendar's cause, and a calendar without one passes.
+-- Assumes nothing.
+use mathlib.Core.Path.{sym, _∙_}
+use borrow.Author.Needs.{needs}
+use borrow.Author.Tests.{eq-eqb, ne-eqb, lt-ltb, le-ltb}
+use Rattle.lookup.proofs.Laws.{check-tells}
+use Rattle.lookup.proofs.lookup_first_live.Statement.{statement}
+use Rattle.lookup.proofs.lookup_first_live.Tie as tie
+
+check-requires : tie.Need-check-requires
+check-requires c κs = search needs
+
+returns : tie.Need-returns
+returns c = rw (ne-eqb _ 0 (λ e. c .if1 .taken (check-tells _ (c .before .before .check .ensures) ∙ e)))
+
+cast-if2 : tie.Need-cast-if2
+cast-if2 c = search needs
+
+cast-first-live : tie.Need-cast-first-live
+cast-first-live c = search needs
+
+first-live-requires : tie.Need-first-live-requires
+first-live-requires c κs = (c .if2 .taken, sym (check-tells _ (c .before .before .before .check .ensures)) ∙ c .before .if1 .left)
+
+cast-result : tie.Need-cast-result
+cast-result c = search needs
+
+returns-2 : tie.Need-returns-2
+returns-2 c = rw (← check-tells _ (c .before .before .before .before .check .ensures), eq-eqb _ 0 (c .before .before .if1 .left), lt-ltb _ _ (c .before .if2 .taken)) (c .first-live .ensures)
+
+returns-3 : tie.Need-returns-3
+returns-3 c = rw (← check-tells _ (c .before .before .before .check .ensures), eq-eqb _ 0 (c .before .if1 .left), le-ltb _ _ (c .if2 .left))
+
+pub lookup-first-live-spec : {M : Type 1} → statement M
+lookup-first-live-spec =
+    tie.close
+    (tie.spec
+    check-requires
+    returns
+    cast-if2
+    cast-first-live
+    first-live-requires
+    cast-result
+    returns-2
+    returns-3)

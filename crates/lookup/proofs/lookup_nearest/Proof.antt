@@ -1,0 +1,48 @@
+-- `lookup::lookup_nearest` meets its contract: a close that is taken has a nearest number, whose price is the nearest.
+-- Assumes nothing.
+use mathlib.Core.Path.{sym, _∙_}
+use borrow.Author.Needs.{needs}
+use borrow.Author.Tests.{le-leb, lt-leb}
+use Rattle.lookup.proofs.Laws.{close-bounds}
+use Rattle.lookup.proofs.lookup_nearest.Statement.{statement}
+use Rattle.lookup.proofs.lookup_nearest.Tie as tie
+
+close-taken-requires : tie.Need-close-taken-requires
+close-taken-requires c κs = search needs
+
+tier-at-requires : tie.Need-tier-at-requires
+tier-at-requires c κs = search needs
+
+nearest-number-requires : tie.Need-nearest-number-requires
+nearest-number-requires c κs = close-bounds _ (sym (c .before .before .close-taken .ensures) ∙ c .before .if2 .taken)
+
+price-at-requires : tie.Need-price-at-requires
+price-at-requires c κs = search needs
+
+cast-result : tie.Need-cast-result
+cast-result c = search needs
+
+returns : tie.Need-returns
+returns c =
+    let taken = c .before .before .before .before in
+    rw (le-leb _ _ (taken .before .if1 .taken), ← taken .close-taken .ensures, c .before .before .before .if2 .taken, ← c .before .before .tier-at .ensures)
+    (c .price-at .ensures ∙ c .before .nearest-number .ensures .nearest-is)
+
+returns-2 : tie.Need-returns-2
+returns-2 c = rw (le-leb _ _ (c .before .before .if1 .taken), ← c .before .close-taken .ensures, c .if2 .left)
+
+returns-3 : tie.Need-returns-3
+returns-3 c = rw (lt-leb _ _ (c .if1 .left))
+
+pub lookup-nearest-spec : {M : Type 1} → statement M
+lookup-nearest-spec =
+    tie.close
+    (tie.spec
+    close-taken-requires
+    tier-at-requires
+    nearest-number-requires
+    price-at-requires
+    cast-result
+    returns
+    returns-2
+    returns-3)

@@ -1,0 +1,39 @@
+-- `lookup::lookup_third_friday_table` meets its contract: the guard is the contract's test, and within it the table's rule gives the entry.
+-- Assumes nothing.
+use borrow.Author.Needs.{needs}
+use borrow.Author.Tests.{lt-ltb, le-ltb}
+use Rattle.lookup.proofs.lookup_third_friday_table.Statement.{statement}
+use Rattle.lookup.proofs.lookup_third_friday_table.Tie as tie
+
+cast-if1 : tie.Need-cast-if1
+cast-if1 c = search needs
+
+third-fridays-requires : tie.Need-third-fridays-requires
+third-fridays-requires c κs = search needs
+
+mul-result : tie.Need-mul-result
+mul-result c = search needs
+
+array-read-result : tie.Need-array-read-result
+array-read-result c = search needs
+
+cast-result : tie.Need-cast-result
+cast-result c = search needs
+
+returns : tie.Need-returns
+returns c = rw (lt-ltb _ _ (c .before .if1 .taken)) (c .third-fridays .ensures .each _ (c .before .if1 .taken))
+
+returns-2 : tie.Need-returns-2
+returns-2 c = rw (le-ltb _ _ (c .if1 .left))
+
+pub lookup-third-friday-table-spec : {M : Type 1} → statement M
+lookup-third-friday-table-spec =
+    tie.close
+    (tie.spec
+    cast-if1
+    third-fridays-requires
+    mul-result
+    array-read-result
+    cast-result
+    returns
+    returns-2)

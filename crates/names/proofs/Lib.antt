@@ -1,0 +1,4 @@
+pub mod DigitLaws
+pub mod RefusalLaws
+pub mod ReadLaws
+pub mod NameLaws

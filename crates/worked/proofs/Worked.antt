@@ -1,0 +1,59 @@
+-- Every line of the table of worked examples holds, by computation.
+-- Assumes nothing.
+use mathlib.Core.Path.{_≡_, refl, _∙_}
+use mathlib.Core.Bool.{true, false}
+use mathlib.Core.List.{List}
+use Prim.Native.Nat.{ℕ}
+use lib.Dec.{lit<}
+use Rattle.base.specs.Search.{firstFrom, lastUpTo}
+use Rattle.base.specs.Lists.{select, leastOf, greatestOf, least, greatest, within}
+use Rattle.base.proofs.SearchLaws.{last-hit, last-miss}
+use Rattle.dates.specs.Months.{friday, monthDays, firstDay, thirdFriday}
+use Rattle.calendar.specs.Calendar.{session, expiryOf}
+use Rattle.grid.specs.Grid.{upBy, band, gridOf, distance, nearestFrom, nearest, nextHigher, nextLower, neighbours, required, requiredLow, requiredHigh, closeTaken}
+use Rattle.names.specs.Names.{digits, letter, nameOf}
+use Rattle.worked.specs.Worked.{Holds, Each, table}
+
+-- line 2 for any calendar: the search passes the third Friday and finds the day before
+third-friday-303 : thirdFriday 303 ≡ 9239
+unfolding thirdFriday firstDay monthDays friday firstFrom
+third-friday-303 = refl
+
+expires-303 : (cal : List ℕ) → session cal 9239 ≡ false → session cal 9238 ≡ true → expiryOf cal 303 ≡ 9238
+unfolding expiryOf
+expires-303 cal missing held =
+    rw third-friday-303 (last-miss (session cal) 9239 (lit< tt) missing ∙ last-hit (session cal) 9238 held)
+
+pub worked : Each table
+unfolding Each Holds table thirdFriday firstDay monthDays friday firstFrom gridOf band upBy distance nearestFrom nearest nextHigher nextLower neighbours required requiredLow requiredHigh closeTaken select leastOf greatestOf least greatest within digits letter nameOf
+worked = (
+  refl,
+  (
+    refl,
+    (
+      expires-303,
+      (
+        refl,
+        (
+          (refl, refl),
+          (
+            refl,
+            (
+              (refl, refl),
+              (
+                refl,
+                (
+                  (refl, refl),
+                  (
+                    (refl, refl, refl),
+                    ((refl, refl), ((refl, refl), ((refl, refl), (refl, ((refl, refl), (refl, (refl, ((refl, refl), (refl, ((refl, refl), (refl, (refl, (refl, tt))))))))))))),
+                  ),
+                ),
+              ),
+            ),
+          ),
+        ),
+      ),
+    ),
+  ),
+)
