@@ -88,21 +88,22 @@ module _ (cal : List ℕ) (bytes : (i : ℕ) → getD cal i 0 < 256) where
           let f = third-friday-rule m .from in
           byte-lacks-not m k (omega arith) (omega arith) (omega (arith, least-at 255 cal k (omega (arith, third-friday-below m u))))
 
-  -- the 15 days up to day d, in three bytes
-  pub three-bytes :
+  -- the 15 days up to day d, in four bytes
+  pub four-bytes :
       (d : ℕ) →
       14 ≤ d →
       let k = (d - 14) / 8 in
-      ltb 0 ((getD cal k 0 + 256 * (getD cal (k + 1) 0 + 256 * getD cal (k + 2) 0)) / 2 ^ ((d - 14) % 8) % 32768)
+      ltb 0 ((getD cal k 0 + 256 * getD cal (k + 1) 0 + 65536 * (getD cal (k + 2) 0 + 256 * getD cal (k + 3) 0)) / 2 ^ ((d - 14) % 8) % 32768)
       ≡ someIn (session cal) (d - 14) (d + 1)
   unfolding word
-  three-bytes d h =
+  four-bytes d h =
       let k : ℕ = (d - 14) / 8 in
-      let w = word-sessions cal bytes 3 k ((d - 14) % 8) 15 (omega arith) in
+      let w = word-sessions cal bytes 4 k ((d - 14) % 8) 15 (omega arith) in
       let a : 8 * k + (d - 14) % 8 ≡ d - 14 = omega arith in
       let b : d - 14 + 15 ≡ d + 1 = omega arith in
       let i : k + 1 + 1 ≡ k + 2 = omega arith in
-      let v : word cal k 3 ≡ getD cal k 0 + 256 * (getD cal (k + 1) 0 + 256 * getD cal (k + 2) 0) = rw i (omega arith) in
+      let j : k + 2 + 1 ≡ k + 3 = omega arith in
+      let v : word cal k 4 ≡ getD cal k 0 + 256 * getD cal (k + 1) 0 + 65536 * (getD cal (k + 2) 0 + 256 * getD cal (k + 3) 0) = rw (i, j) (omega arith) in
       sym (rw (a, b, v) at w)
 
 -- ---- the check's number: where the length and the last byte are right, the first month that lacks its session decides

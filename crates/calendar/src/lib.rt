@@ -49,15 +49,17 @@ fn least_byte(calendar: &[u8]) -> u8
     least
 }
 
-// Whether one of the 15 days that end with `last` has a session: their bits, in three bytes taken as one number.
+// Whether one of the 15 days that end with `last` has a session: their bits, in four bytes taken as one number, which the
+// compiler loads at once.
 fn recent_session(calendar: &[u8], last: u16) -> bool
-    requires { ⌜ (14 ≤ last) × ((last - 14) / 8 + 2 < length (now calendar)) ⌝ }
+    requires { ⌜ (14 ≤ last) × ((last - 14) / 8 + 3 < length (now calendar)) ⌝ }
     ensures { λ r. ⌜ r ≡ someIn (session (now (calendar .entry))) (last - 14) (last + 1) ⌝ }
 {
     let first = last - 14;
     let at = (first / 8) as usize;
-    let high = (calendar[at + 1] as u32) + 256 * (calendar[at + 2] as u32);
-    let days = (calendar[at] as u32) + 256 * high;
+    let high = (calendar[at + 2] as u32) + 256 * (calendar[at + 3] as u32);
+    let low = (calendar[at] as u32) + 256 * (calendar[at + 1] as u32);
+    let days = low + 65536 * high;
     0 < (days >> (first % 8)) % 32768
 }
 

@@ -1,9 +1,9 @@
--- `calendar::recent_session` meets its contract: the 15 days are a stretch of the bits of three bytes taken as one number.
+-- `calendar::recent_session` meets its contract: the 15 days are a stretch of the bits of four bytes taken as one number.
 -- Assumes nothing.
 use Prim.Native.Nat.{ℕ, _+_, _-_, _/_}
 use native.Mathlib.Omega.{arith}
 use borrow.Author.Needs.{needs}
-use Rattle.calendar.proofs.Laws.{three-bytes}
+use Rattle.calendar.proofs.Laws.{four-bytes}
 use Rattle.calendar.proofs.recent_session.Statement.{statement}
 use Rattle.calendar.proofs.recent_session.Tie as tie
 
@@ -20,7 +20,7 @@ shared-slice-read-high : tie.Need-shared-slice-read-high
 shared-slice-read-high c = search needs
 
 cast-high : tie.Need-cast-high
-cast-high c = omega (arith, c .shared-slice-known .given ((c .before .args .last - 14) / 8 + 1))
+cast-high c = omega (arith, c .shared-slice-known .given ((c .before .args .last - 14) / 8 + 2))
 
 add-high-2 : tie.Need-add-high-2
 add-high-2 c = search needs
@@ -29,31 +29,48 @@ shared-slice-read-high-2 : tie.Need-shared-slice-read-high-2
 shared-slice-read-high-2 c = search needs
 
 cast-high-2 : tie.Need-cast-high-2
-cast-high-2 c = omega (arith, c .shared-slice-known2 .given ((c .before .before .args .last - 14) / 8 + 2))
+cast-high-2 c = omega (arith, c .shared-slice-known2 .given ((c .before .before .args .last - 14) / 8 + 3))
 
 mul-high : tie.Need-mul-high
-mul-high c = omega (arith, c .shared-slice-known2 .given ((c .before .before .args .last - 14) / 8 + 2))
+mul-high c = omega (arith, c .shared-slice-known2 .given ((c .before .before .args .last - 14) / 8 + 3))
 
 add-high-3 : tie.Need-add-high-3
 add-high-3 c =
     let at : ℕ = (c .before .before .args .last - 14) / 8 in
-    omega (arith, c .shared-slice-known2 .given (at + 1), c .shared-slice-known2 .given (at + 2))
+    omega (arith, c .shared-slice-known2 .given (at + 2), c .shared-slice-known2 .given (at + 3))
 
-shared-slice-read-days : tie.Need-shared-slice-read-days
-shared-slice-read-days c = search needs
+shared-slice-read-low : tie.Need-shared-slice-read-low
+shared-slice-read-low c = search needs
 
-cast-days : tie.Need-cast-days
-cast-days c = omega (arith, c .shared-slice-known3 .given ((c .before .before .before .args .last - 14) / 8))
+cast-low : tie.Need-cast-low
+cast-low c = omega (arith, c .shared-slice-known3 .given ((c .before .before .before .args .last - 14) / 8))
+
+add-low : tie.Need-add-low
+add-low c = search needs
+
+shared-slice-read-low-2 : tie.Need-shared-slice-read-low-2
+shared-slice-read-low-2 c = search needs
+
+cast-low-2 : tie.Need-cast-low-2
+cast-low-2 c = omega (arith, c .shared-slice-known4 .given ((c .before .before .before .before .args .last - 14) / 8 + 1))
+
+mul-low : tie.Need-mul-low
+mul-low c = omega (arith, c .shared-slice-known4 .given ((c .before .before .before .before .args .last - 14) / 8 + 1))
+
+add-low-2 : tie.Need-add-low-2
+add-low-2 c =
+    let at : ℕ = (c .before .before .before .before .args .last - 14) / 8 in
+    omega (arith, c .shared-slice-known4 .given at, c .shared-slice-known4 .given (at + 1))
 
 mul-days : tie.Need-mul-days
 mul-days c =
-    let at : ℕ = (c .before .before .before .args .last - 14) / 8 in
-    omega (arith, c .shared-slice-known3 .given (at + 1), c .shared-slice-known3 .given (at + 2))
+    let at : ℕ = (c .before .before .before .before .args .last - 14) / 8 in
+    omega (arith, c .shared-slice-known4 .given (at + 2), c .shared-slice-known4 .given (at + 3))
 
 add-days : tie.Need-add-days
 add-days c =
-    let at : ℕ = (c .before .before .before .args .last - 14) / 8 in
-    omega (arith, c .shared-slice-known3 .given at, c .shared-slice-known3 .given (at + 1), c .shared-slice-known3 .given (at + 2))
+    let at : ℕ = (c .before .before .before .before .args .last - 14) / 8 in
+    omega (arith, c .shared-slice-known4 .given at, c .shared-slice-known4 .given (at + 1), c .shared-slice-known4 .given (at + 2), c .shared-slice-known4 .given (at + 3))
 
 cast-result : tie.Need-cast-result
 cast-result c = search needs
@@ -62,7 +79,7 @@ shr-result : tie.Need-shr-result
 shr-result c = search needs
 
 returns : tie.Need-returns
-returns c = three-bytes _ (λ i. c .shared-slice-known3 .given i .fits) (c .before .before .before .args .last) (omega arith)
+returns c = four-bytes _ (λ i. c .shared-slice-known4 .given i .fits) (c .before .before .before .before .args .last) (omega arith)
 
 pub recent-session-spec : {M : Type 1} → statement M
 recent-session-spec =
@@ -78,8 +95,13 @@ recent-session-spec =
     cast-high-2
     mul-high
     add-high-3
-    shared-slice-read-days
-    cast-days
+    shared-slice-read-low
+    cast-low
+    add-low
+    shared-slice-read-low-2
+    cast-low-2
+    mul-low
+    add-low-2
     mul-days
     add-days
     cast-result

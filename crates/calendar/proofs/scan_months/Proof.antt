@@ -10,7 +10,7 @@ use borrow.Author.Tests.{not-true, not-false}
 use Rattle.base.specs.Search.{firstIn}
 use Rattle.base.proofs.SearchLaws.{first-end, first-hit, first-miss}
 use Rattle.dates.specs.Months.{monthCount, firstDay, thirdFriday}
-use Rattle.dates.proofs.Laws.{third-friday-is, third-friday-rule, third-friday-below}
+use Rattle.dates.proofs.Laws.{third-friday-rule, third-friday-below, first-day-next, first-day-to}
 use Rattle.calendar.specs.Calendar.{session, lacks, firstLacking}
 use Rattle.calendar.proofs.Laws.{lacks-not, lacks-found, lacks-none}
 use Rattle.calendar.proofs.scan_months.Statement.{statement}
@@ -48,7 +48,7 @@ recent-session-requires : tie.Need-recent-session-requires Inv-loop μ-loop Inv-
 recent-session-requires c κs =
     let m = c .before .before .months .month in
     let e = c .before .before .before .before .pre .1 .each m (c .before .months-test .taken) in
-    omega (arith, e, third-friday-is m, third-friday-below m (c .before .months-test .taken))
+    omega (arith, e, third-friday-rule m, first-day-next m, first-day-to (m + 1) (omega arith))
 
 first-day-requires : tie.Need-first-day-requires Inv-loop μ-loop Inv-months μ-months
 first-day-requires c κs = search needs
