@@ -1,7 +1,7 @@
 -- How a question's answer is told: a number, or 65,535 where the question lies outside its range.
 -- Assumes nothing.
 use mathlib.Core.Bool.{Bool, cond, _&&_}
-use Prim.Native.Nat.{ℕ, _+_, _-_, _/_, _%_}
+use Prim.Native.Nat.{ℕ, _+_, _-_, _%_}
 use lib.Dec.{eqb, leb, ltb}
 use Rattle.base.specs.declared.Tier.{Tier}
 use Rattle.base.specs.declared.Tier.the-variants.{N, M, F}

@@ -5,7 +5,7 @@ use dates::DAYS;
 use dates::MONTHS;
 use grid::Strikes;
 ghost use mathlib.Core.Path.{_≡_};
-ghost use mathlib.Core.Bool.{cond, _&&_};
+ghost use mathlib.Core.Bool.{_&&_};
 ghost use lib.Dec.{eqb, leb, ltb};
 ghost use lib.ListN.{getD};
 ghost use Rattle.base.specs.Lists.{elem};

@@ -37,7 +37,7 @@ add-t13 c = search needs
 
 returns : tie.Need-returns
 unfolding dateOf
-returns c = rw (lt-ltb _ _ (c .before .before .if1 .taken)) (cc)
+returns c = rw (lt-ltb _ _ (c .before .before .if1 .taken), c .first-day .ensures, c .before .month-of .ensures)
 
 returns-2 : tie.Need-returns-2
 unfolding dateOf

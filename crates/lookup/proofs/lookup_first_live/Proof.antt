@@ -1,6 +1,6 @@
 -- `lookup::lookup_first_live` meets its contract: the check's number is the calendar's cause, and a calendar without one passes.
 -- Assumes nothing.
-use mathlib.Core.Path.{sym, _∙_}
+use native.Mathlib.Omega.{arith}
 use borrow.Author.Needs.{needs}
 use borrow.Author.Tests.{eq-eqb, ne-eqb, lt-ltb, le-ltb}
 use Rattle.lookup.proofs.Laws.{check-tells}
@@ -11,7 +11,7 @@ check-requires : tie.Need-check-requires
 check-requires c κs = search needs
 
 returns : tie.Need-returns
-returns c = rw (ne-eqb _ 0 (λ e. c .if1 .taken (check-tells _ (c .before .before .check .ensures) ∙ e)))
+returns c = rw (← check-tells _ (c .before .before .check .ensures), ne-eqb (c .before .before .check .result .number) 0 (λ e. omega arith))
 
 cast-if2 : tie.Need-cast-if2
 cast-if2 c = search needs
@@ -20,7 +20,7 @@ cast-first-live : tie.Need-cast-first-live
 cast-first-live c = search needs
 
 first-live-requires : tie.Need-first-live-requires
-first-live-requires c κs = (c .if2 .taken, sym (check-tells _ (c .before .before .before .check .ensures)) ∙ c .before .if1 .left)
+first-live-requires c κs = (omega arith, omega (arith, check-tells _ (c .before .before .before .check .ensures)))
 
 cast-result : tie.Need-cast-result
 cast-result c = search needs

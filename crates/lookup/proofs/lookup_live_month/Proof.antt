@@ -24,7 +24,7 @@ cast-result : tie.Need-cast-result
 cast-result c = search needs
 
 returns : tie.Need-returns
-returns c = rw (le-leb _ _ (c .before .before .if1 .taken), lt-ltb _ _ (c .before .if2 .taken), ← c .live-months .ensures)
+returns c = rw (le-leb _ _ (c .before .before .if1 .taken), lt-ltb _ _ (c .before .if2 .taken), c .live-months .ensures)
 
 returns-2 : tie.Need-returns-2
 returns-2 c = rw (le-leb _ _ (c .before .if1 .taken), le-ltb _ _ (c .if2 .left))

@@ -24,8 +24,8 @@ cast-result c = search needs
 
 returns : tie.Need-returns
 returns c =
-    let taken = c .before .before .before .before in
-    rw (le-leb _ _ (taken .before .if1 .taken), ← taken .close-taken .ensures, c .before .before .before .if2 .taken, ← c .before .before .tier-at .ensures)
+    let tested = c .before .before .before .before in
+    rw (le-leb _ _ (tested .before .if1 .taken), ← tested .close-taken .ensures, c .before .before .before .if2 .taken, ← c .before .before .tier-at .ensures)
     (c .price-at .ensures ∙ c .before .nearest-number .ensures .nearest-is)
 
 returns-2 : tie.Need-returns-2

@@ -20,8 +20,8 @@ required-strikes-requires c κs = close-bounds _ (sym (c .before .before .close-
 returns : tie.Need-returns
 unfolding requiredAt
 returns c =
-    let taken = c .before .before .before in
-    rw (le-leb _ _ (taken .before .if1 .taken), ← taken .close-taken .ensures, c .before .before .if2 .taken, ← c .before .tier-at .ensures, ← c .required-strikes .ensures .0, ← c .required-strikes .ensures .1)
+    let tested = c .before .before .before in
+    rw (le-leb _ _ (tested .before .if1 .taken), ← tested .close-taken .ensures, c .before .before .if2 .taken, ← c .before .tier-at .ensures, ← c .required-strikes .ensures .0, ← c .required-strikes .ensures .1)
 
 returns-2 : tie.Need-returns-2
 unfolding requiredAt
