@@ -5,7 +5,7 @@ use mathlib.Core.Bool.{true, false}
 use mathlib.Core.List.{List}
 use Prim.Native.Nat.{ℕ}
 use lib.Dec.{lit<}
-use Rattle.base.specs.Search.{firstFrom, lastUpTo}
+use Rattle.base.specs.Search.{firstFrom}
 use Rattle.base.specs.Lists.{select, leastOf, greatestOf, least, greatest, within}
 use Rattle.base.proofs.SearchLaws.{last-hit, last-miss}
 use Rattle.dates.specs.Months.{friday, monthDays, firstDay, thirdFriday}
