@@ -13,7 +13,9 @@
  * hold, the function's own comment says which is told.
  *
  * Days count from 0, 1 January 2000, to 36524, 31 December 2099. Months count from 0, January
- * 2000, to 1199, December 2099.
+ * 2000, to 1199, December 2099. A month expires on its third Friday, or else on the last session
+ * day before it. The live months of a day are the first that has not expired before it, the two
+ * months after that, and the next three of March, June, September and December.
  */
 #ifndef SINDHOPUL_H
 #define SINDHOPUL_H
@@ -29,6 +31,27 @@ extern "C" {
  * n div 8 is set; the three bits after day 36524 are 0. */
 #define SINDHOPUL_CALENDAR_BYTES 4566
 
+/* The length of a register. All zero it is empty; otherwise it is running, and holds
+ *   byte 0         1
+ *   byte 1         how many announcements wait
+ *   bytes 2, 3     the day of the last start or session
+ *   bytes 4, 5     how many rows stand
+ *   bytes 6, 7     0
+ *   bytes 8 to 135 the announcements in the order received, 4 bytes each: month, price
+ *   from byte 136  the rows, ascending by month, then price
+ * with 0 in all places that are not used. Numbers of two bytes have the low byte first. */
+#define SINDHOPUL_REGISTER_BYTES 11264
+
+/* The length of a row: month, price in whole index points and first day, of two bytes each; the
+ * origin; a byte 0. The origin tells what brought the row: 1 its month being new, 2 a finer grid,
+ * 3 a close, 4 an announcement, each with the gap up to the ladder that stood, 5 the start. A row
+ * is for call and put together. */
+#define SINDHOPUL_ROW_BYTES 8
+
+/* How many rows can stand, and how many announcements can wait. */
+#define SINDHOPUL_MOST_ROWS 1391
+#define SINDHOPUL_MOST_ANNOUNCEMENTS 32
+
 /* The length of a name, as in OW20L262400; no zero byte follows it. */
 #define SINDHOPUL_NAME_BYTES 11
 
@@ -40,6 +63,36 @@ enum {
     SINDHOPUL_CAUSE_CALENDAR_TAIL = 12,
     /* A month has no session from its first day to its third Friday, ends included. */
     SINDHOPUL_CAUSE_CALENDAR_MONTH = 13,
+    /* The register is not 11264 bytes long. */
+    SINDHOPUL_CAUSE_REGISTER_LENGTH = 14,
+    /* The register is neither empty nor well formed. Well formed is one of the layout above, its
+     * day a session with a first live month up to March 2099, with a ladder for each live month
+     * that has no gap on the month's grid, no other row, no first day after its day, no origin
+     * but 1 to 5, and no announcement that 20 or 22 to 24 would refuse beside the others. */
+    SINDHOPUL_CAUSE_REGISTER_FORM = 15,
+    /* The register to start is running. */
+    SINDHOPUL_CAUSE_RUNNING = 16,
+    /* The register is empty. */
+    SINDHOPUL_CAUSE_EMPTY = 17,
+    /* The day of the start is above 36524 or has no session. */
+    SINDHOPUL_CAUSE_START_DAY = 18,
+    /* The day is not the first session day after the register's. */
+    SINDHOPUL_CAUSE_SESSION_DAY = 19,
+    /* The first live month of the new day would be after March 2099, or that of the next session
+     * day for an announcement. */
+    SINDHOPUL_CAUSE_TOO_LATE = 20,
+    /* The close is below 9000 or above 954999. */
+    SINDHOPUL_CAUSE_CLOSE = 21,
+    /* The month to announce is not live, or expires on the register's day. */
+    SINDHOPUL_CAUSE_ANNOUNCE_MONTH = 22,
+    /* The price to announce is not on the grid that its month has on the next session day. */
+    SINDHOPUL_CAUSE_ANNOUNCE_PRICE = 23,
+    /* The price to announce lies within its month's ladder, or waits already. */
+    SINDHOPUL_CAUSE_ANNOUNCE_KNOWN = 24,
+    /* 32 announcements wait. */
+    SINDHOPUL_CAUSE_ANNOUNCE_FULL = 25,
+    /* The month whose rows are wanted is not live. */
+    SINDHOPUL_CAUSE_ROWS_MONTH = 26,
     /* The name's buffer is not 11 bytes long. */
     SINDHOPUL_CAUSE_NAME_LENGTH = 27,
     /* The month is above 1199, the type above 1, or the price not on the grid of the nearest
@@ -56,6 +109,24 @@ typedef struct {
 
 typedef struct {
     uint16_t number;
+    uint16_t added;   /* rows whose first day is the new day; with 13: the month as above */
+    uint16_t removed; /* old rows of the month that expired */
+    uint16_t rows;    /* rows that stand now */
+} sindhopul_listing_result;
+
+typedef struct {
+    uint16_t number;
+    uint16_t waiting; /* announcements that wait now; with 13: the month as above */
+} sindhopul_announce_result;
+
+typedef struct {
+    uint16_t number;
+    uint16_t at;   /* the byte of the register where the month's rows begin */
+    uint16_t size; /* how many bytes they are */
+} sindhopul_rows_result;
+
+typedef struct {
+    uint16_t number;
     uint16_t month; /* with 29: the first place, 0 to 10, whose byte cannot stand there */
     uint16_t type;  /* 0 call, 1 put */
     uint16_t price; /* whole index points */
@@ -63,14 +134,45 @@ typedef struct {
 
 #ifdef __cplusplus
 static_assert(sizeof(sindhopul_calendar_result) == 4, "two 16-bit numbers");
+static_assert(sizeof(sindhopul_listing_result) == 8, "four 16-bit numbers");
+static_assert(sizeof(sindhopul_announce_result) == 4, "two 16-bit numbers");
+static_assert(sizeof(sindhopul_rows_result) == 6, "three 16-bit numbers");
 static_assert(sizeof(sindhopul_name_result) == 8, "four 16-bit numbers");
 #else
 _Static_assert(sizeof(sindhopul_calendar_result) == 4, "two 16-bit numbers");
+_Static_assert(sizeof(sindhopul_listing_result) == 8, "four 16-bit numbers");
+_Static_assert(sizeof(sindhopul_announce_result) == 4, "two 16-bit numbers");
+_Static_assert(sizeof(sindhopul_rows_result) == 6, "three 16-bit numbers");
 _Static_assert(sizeof(sindhopul_name_result) == 8, "four 16-bit numbers");
 #endif
 
 /* Checks a calendar. Numbers: 0, or the first that holds of 11, 12 and 13. */
 sindhopul_calendar_result sindhopul_calendar_check(const uint8_t *calendar, size_t calendar_length);
+
+/* Starts an empty register on a session day. The close is that before the day, in hundredths of
+ * an index point. Numbers: 0, or the first that holds of 11 to 16, 18, 20 and 21. */
+sindhopul_listing_result sindhopul_start(const uint8_t *calendar, size_t calendar_length,
+                                         uint8_t *register_bytes, size_t register_length,
+                                         uint32_t day, uint32_t close);
+
+/* Moves a register on to the next session day: drops the month that expired, lists what the
+ * close before that day requires and what was announced, and clears the announcements. Numbers:
+ * 0, or the first that holds of 11 to 15, 17 and 19 to 21. */
+sindhopul_listing_result sindhopul_session(const uint8_t *calendar, size_t calendar_length,
+                                           uint8_t *register_bytes, size_t register_length,
+                                           uint32_t day, uint32_t close);
+
+/* Announces a price of a month, in whole index points, for the next session. Numbers: 0, or the
+ * first that holds of 11 to 15, 17, 20 and 22 to 25. */
+sindhopul_announce_result sindhopul_announce(const uint8_t *calendar, size_t calendar_length,
+                                             uint8_t *register_bytes, size_t register_length,
+                                             uint32_t month, uint32_t price);
+
+/* Tells where in a register a month's rows stand. Beside a refusal, 13 too, both values are 0.
+ * Numbers: 0, or the first that holds of 11 to 15, 17 and 26. */
+sindhopul_rows_result sindhopul_rows(const uint8_t *calendar, size_t calendar_length,
+                                     const uint8_t *register_bytes, size_t register_length,
+                                     uint32_t month);
 
 /* Writes the name of a series into 11 bytes. Type 0 is a call, 1 a put. Numbers: 0, or the first
  * that holds of 27 and 28. */

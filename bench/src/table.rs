@@ -50,9 +50,15 @@ const HEADING: [&str; 6] = [
 
 const NOTES: &str = "\
 Ratio: sindhopul to independent, whose names go through std's formatting and parsing.
-Yardstick: the sum of the calendar's bytes read as 64-bit words.
+Yardstick: for a check the sum of the calendar's bytes read as 64-bit words; for a
+  call on a register a copy of its 11,264 bytes and the sum of register and calendar.
+Calls on a register are made on a fresh copy each time. What the copying takes by
+  itself was measured beside them and is taken off both, not off the yardstick.
+Sessions: with so many rows standing and the close as before, so that nothing is
+  listed; after the expiry of June 2026 (33 rows leave, 34 come); from 94 rows with
+  a close of 6960 points (501 rows come); refused, since the day is not the next.
 Holidays: 1 and 6 January, Good Friday, Easter Monday, 1 and 3 May, 15 August,
-  1 and 11 November, 24 to 26 and 31 December.
+  1 and 11 November, 24 to 26 and 31 December. The registers have this calendar.
 Empty weeks: the same calendar without the sessions from the second Monday of
   every month to its Friday, so that with the weekends nine days have none.
 Third Fridays only: the one session of a window is at its end.";

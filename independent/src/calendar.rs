@@ -1,6 +1,6 @@
 //! The session calendar, expiry dates, live months and their tiers.
 
-use crate::dates::{self, DAYS, MONTHS};
+use crate::dates::{self, DAYS};
 use crate::grid::Tier;
 
 /// The length of a calendar in bytes.
@@ -77,11 +77,13 @@ impl<'a> Calendar<'a> {
         (day + 1..DAYS).find(|&day| self.has_session(day))
     }
 
-    /// The earliest month whose expiry date is the day or later; 1,200 where there is none.
+    /// The earliest month whose expiry date is the day, up to 36,524, or later; 1,200 where there
+    /// is none.
     pub fn first_live_month(self, day: u16) -> u16 {
-        (0..MONTHS)
-            .find(|&month| self.expiry(month) >= day)
-            .unwrap_or(MONTHS)
+        // A month's expiry date lies in the month, so the earlier months have expired by now and
+        // the later ones have not.
+        let month = dates::month_of(day);
+        month + u16::from(self.expiry(month) < day)
     }
 }
 
@@ -111,19 +113,23 @@ pub fn live_months(first: u16) -> [u16; 6] {
     ]
 }
 
+/// The tiers of the six live months.
+const TIERS: [Tier; 6] = [Tier::N, Tier::M, Tier::M, Tier::F, Tier::F, Tier::F];
+
+/// The six live months where this one is the first, each with its tier.
+pub fn live_tiers(first: u16) -> impl Iterator<Item = (u16, Tier)> {
+    live_months(first).into_iter().zip(TIERS)
+}
+
 /// The tier of a month where `first` is the first live month; none for a month that is not live.
 pub fn tier(first: u16, month: u16) -> Option<Tier> {
-    let place = live_months(first).iter().position(|&live| live == month)?;
-    Some(match place {
-        0 => Tier::N,
-        1..=2 => Tier::M,
-        _ => Tier::F,
-    })
+    live_tiers(first).find_map(|(live, tier)| (live == month).then_some(tier))
 }
 
 #[cfg(test)]
 mod tests {
     use super::*;
+    use crate::dates::MONTHS;
 
     fn error(bytes: &[u8]) -> Option<CalendarError> {
         Calendar::check(bytes).err()
@@ -183,6 +189,20 @@ mod tests {
         assert_eq!(calendar.first_live_month(last), MONTHS - 1);
         assert_eq!(calendar.first_live_month(last + 1), MONTHS);
         assert_eq!(calendar.next_session(last), None);
+    }
+
+    #[test]
+    fn the_first_live_month_is_the_earliest_that_has_not_expired() {
+        let sparse = (0..DAYS).filter(|day| day % 11 == 0);
+        let bytes = bytes_of(sparse);
+        let calendar = Calendar::check(&bytes).unwrap();
+        let mut earliest = 0;
+        for day in 0..DAYS {
+            while earliest < MONTHS && calendar.expiry(earliest) < day {
+                earliest += 1;
+            }
+            assert_eq!(calendar.first_live_month(day), earliest);
+        }
     }
 
     #[test]

@@ -1,6 +1,5 @@
 //! The three grids as lists of prices, and the prices that a close requires.
 
-use std::cmp::Reverse;
 use std::sync::LazyLock;
 
 /// Which of the three grids a live month has.
@@ -62,14 +61,28 @@ pub fn has_price(tier: Tier, price: u32) -> bool {
     u16::try_from(price).is_ok_and(|price| prices(tier).binary_search(&price).is_ok())
 }
 
+/// The prices of a tier's grid from a lowest to a highest, both included.
+pub fn between(tier: Tier, low: u16, high: u16) -> &'static [u16] {
+    let prices = prices(tier);
+    let first = prices.partition_point(|&price| price < low);
+    let end = prices.partition_point(|&price| price <= high);
+    &prices[first..end]
+}
+
 /// The place on a tier's grid of the price at least distance from a close; halfway, the higher.
 fn nearest_place(tier: Tier, close: u32) -> usize {
-    let distance = |price: u16| close.abs_diff(100 * u32::from(price));
-    let places = prices(tier).iter().enumerate();
-    places
-        .min_by_key(|&(place, &price)| (distance(price), Reverse(place)))
-        .map(|(place, _)| place)
-        .expect("no grid is empty")
+    let prices = prices(tier);
+    let hundredths = |price: u16| 100 * u32::from(price);
+    let above = prices.partition_point(|&price| hundredths(price) <= close);
+    // Only the prices on either side of the close can be nearest.
+    let below = above.saturating_sub(1);
+    let above = above.min(prices.len() - 1);
+    let distance = |place: usize| close.abs_diff(hundredths(prices[place]));
+    if distance(above) <= distance(below) {
+        above
+    } else {
+        below
+    }
 }
 
 /// The grid price at least distance from a close; halfway, the higher.
@@ -86,6 +99,8 @@ pub fn required(tier: Tier, close: u32) -> &'static [u16] {
 
 #[cfg(test)]
 mod tests {
+    use std::cmp::Reverse;
+
     use super::*;
 
     fn span(tier: Tier, close: u32) -> (u16, u16) {
@@ -110,6 +125,28 @@ mod tests {
             assert_eq!(has_price(Tier::N, price), on_grid, "{price}");
         }
         assert!(!has_price(Tier::N, 65_536 + 2_400));
+    }
+
+    #[test]
+    fn no_price_is_nearer_and_no_higher_one_as_near() {
+        for tier in Tier::ALL {
+            for pair in prices(tier).windows(2) {
+                let halfway = 50 * u32::from(pair[0] + pair[1]);
+                for close in halfway - 1..=halfway + 1 {
+                    let distance = |price: u16| close.abs_diff(100 * u32::from(price));
+                    let all = prices(tier).iter().copied();
+                    let wanted = all.min_by_key(|&price| (distance(price), Reverse(price)));
+                    assert_eq!(Some(nearest(tier, close)), wanted);
+                }
+            }
+        }
+    }
+
+    #[test]
+    fn a_stretch_of_a_grid_has_both_its_ends() {
+        assert_eq!(between(Tier::N, 470, 500), [470, 475, 480, 490, 500]);
+        assert_eq!(between(Tier::F, 445, 1_005), between(Tier::F, 460, 1_000));
+        assert_eq!(between(Tier::M, 0, u16::MAX), prices(Tier::M));
     }
 
     #[test]

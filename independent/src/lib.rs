@@ -1,14 +1,20 @@
-//! Document 01's calendar, grids and names, written a second time.
+//! Document 01's calendar, grids, names and register, written a second time.
 //!
 //! It shares no code, table or definition with the proved crates: the host tests compare the two,
 //! and the benchmark takes its speed for that of ordinary Rust.
 
 pub mod calendar;
+pub mod calls;
 pub mod dates;
 pub mod grid;
+pub mod judge;
 pub mod names;
+pub mod register;
 pub mod warsaw;
 
 pub use calendar::{live_months, tier, Calendar, CalendarError};
+pub use calls::Listing;
 pub use grid::Tier;
+pub use judge::History;
 pub use names::{NameError, OptionType, Series};
+pub use register::{Register, RegisterError};

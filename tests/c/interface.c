@@ -13,6 +13,8 @@ enum { GUARD = 16, GUARD_BYTE = 0xa5, LONGEST = 40, ROOM = GUARD + LONGEST + GUA
 enum { JUNE = 317, JUNE_FIRST = 9648, JUNE_FRIDAY = 9666 };
 enum { LAST = 1199, LAST_FIRST = 36494, LAST_FRIDAY = 36511 };
 
+enum { CLOSE = 241337, FIRST_ROW = 136 };
+
 static int failures = 0;
 
 static void check(int holds, const char *what, int line)
@@ -204,6 +206,215 @@ static void test_calendar_months(void)
     CHECK(checks(&some, SINDHOPUL_CALENDAR_BYTES, 13, 0));
 }
 
+/* Registers */
+
+/* A register between guard bytes, and the calendar that goes with it. */
+typedef struct {
+    sessions calendar;
+    uint8_t room[GUARD + SINDHOPUL_REGISTER_BYTES + GUARD];
+} desk;
+
+static desk empty_desk(void)
+{
+    desk made;
+    made.calendar = every_day();
+    memset(made.room, GUARD_BYTE, sizeof made.room);
+    memset(made.room + GUARD, 0, SINDHOPUL_REGISTER_BYTES);
+    return made;
+}
+
+static uint8_t *at(desk *used, size_t place)
+{
+    return used->room + GUARD + place;
+}
+
+static sindhopul_listing_result start(desk *used, uint32_t day, uint32_t close)
+{
+    return sindhopul_start(used->calendar.bytes, SINDHOPUL_CALENDAR_BYTES, at(used, 0),
+                           SINDHOPUL_REGISTER_BYTES, day, close);
+}
+
+static sindhopul_listing_result session(desk *used, uint32_t day, uint32_t close)
+{
+    return sindhopul_session(used->calendar.bytes, SINDHOPUL_CALENDAR_BYTES, at(used, 0),
+                             SINDHOPUL_REGISTER_BYTES, day, close);
+}
+
+static sindhopul_announce_result announce(desk *used, uint32_t month, uint32_t price)
+{
+    return sindhopul_announce(used->calendar.bytes, SINDHOPUL_CALENDAR_BYTES, at(used, 0),
+                              SINDHOPUL_REGISTER_BYTES, month, price);
+}
+
+static sindhopul_rows_result rows(desk *used, uint32_t month)
+{
+    return sindhopul_rows(used->calendar.bytes, SINDHOPUL_CALENDAR_BYTES, at(used, 0),
+                          SINDHOPUL_REGISTER_BYTES, month);
+}
+
+static int is_listing(sindhopul_listing_result got, unsigned number, unsigned added,
+                      unsigned removed, unsigned row_count)
+{
+    return got.number == number && got.added == added && got.removed == removed
+           && got.rows == row_count;
+}
+
+static int is_announce(sindhopul_announce_result got, unsigned number, unsigned waiting)
+{
+    return got.number == number && got.waiting == waiting;
+}
+
+static int is_rows(sindhopul_rows_result got, unsigned number, unsigned first, unsigned size)
+{
+    return got.number == number && got.at == first && got.size == size;
+}
+
+/* Started two days before the June expiry: 94 rows. */
+static desk started_desk(void)
+{
+    desk made = empty_desk();
+    CHECK(is_listing(start(&made, JUNE_FRIDAY - 2, CLOSE), 0, 94, 0, 94));
+    return made;
+}
+
+static int guards_stand(desk *used)
+{
+    unsigned place;
+    for (place = 0; place < GUARD; place++) {
+        if (used->room[place] != GUARD_BYTE
+            || *at(used, SINDHOPUL_REGISTER_BYTES + place) != GUARD_BYTE) {
+            return 0;
+        }
+    }
+    return 1;
+}
+
+/* Neither register nor guards nor calendar differ. */
+static int same(const desk *one, const desk *other)
+{
+    return memcmp(one, other, sizeof *one) == 0;
+}
+
+static void test_register_listed(void)
+{
+    const uint8_t header[8] = {1, 0, 0xc0, 0x25, 94, 0, 0, 0};
+    const uint8_t first_row[8] = {0x3d, 1, 0xe9, 7, 0xc0, 0x25, 5, 0};
+    const uint8_t announced[4] = {0x3e, 1, 0x1c, 0x0c};
+    const uint8_t no_announcement[4] = {0, 0, 0, 0};
+    desk some = started_desk();
+    sessions calendar = some.calendar;
+    CHECK(memcmp(at(&some, 0), header, sizeof header) == 0);
+    CHECK(memcmp(at(&some, FIRST_ROW), first_row, sizeof first_row) == 0);
+    CHECK(is_announce(announce(&some, JUNE + 1, 3100), 0, 1));
+    CHECK(*at(&some, 1) == 1);
+    CHECK(memcmp(at(&some, 8), announced, sizeof announced) == 0);
+    CHECK(is_listing(session(&some, JUNE_FRIDAY - 1, CLOSE), 0, 6, 0, 100));
+    CHECK(*at(&some, 1) == 0);
+    CHECK(memcmp(at(&some, 8), no_announcement, sizeof no_announcement) == 0);
+    CHECK(is_listing(session(&some, JUNE_FRIDAY, CLOSE), 0, 0, 0, 100));
+    /* June leaves with 33 rows. On their finer grids July gets 22 and September 8 between those
+     * that stand, and the new month has 9. */
+    CHECK(is_listing(session(&some, JUNE_FRIDAY + 1, CLOSE), 0, 39, 33, 106));
+    CHECK(guards_stand(&some));
+    CHECK(memcmp(calendar.bytes, some.calendar.bytes, sizeof calendar.bytes) == 0);
+}
+
+/* What a far close adds stays when the close returns. */
+static void test_far_close(void)
+{
+    desk some = started_desk();
+    CHECK(is_listing(session(&some, JUNE_FRIDAY - 1, CLOSE + 100000), 0, 110, 0, 204));
+    CHECK(is_listing(session(&some, JUNE_FRIDAY, CLOSE), 0, 0, 0, 204));
+    CHECK(guards_stand(&some));
+}
+
+static void test_rows(void)
+{
+    desk some = started_desk();
+    desk before = some;
+    CHECK(is_rows(rows(&some, JUNE), 0, FIRST_ROW, 33 * SINDHOPUL_ROW_BYTES));
+    CHECK(is_rows(rows(&some, JUNE + 1), 0, FIRST_ROW + 33 * SINDHOPUL_ROW_BYTES,
+                  17 * SINDHOPUL_ROW_BYTES));
+    CHECK(is_rows(rows(&some, JUNE - 1), 26, 0, 0));
+    CHECK(is_rows(rows(&some, 65536 + JUNE), 26, 0, 0));
+    clear(&some.calendar, LAST_FIRST, LAST_FRIDAY);
+    CHECK(is_rows(rows(&some, JUNE), 13, 0, 0));
+    some.calendar = before.calendar;
+    CHECK(same(&some, &before));
+}
+
+static void test_empty_register(void)
+{
+    desk some = empty_desk();
+    desk before = some;
+    CHECK(is_listing(session(&some, JUNE_FRIDAY, CLOSE), 17, 0, 0, 0));
+    CHECK(is_announce(announce(&some, JUNE, 3100), 17, 0));
+    CHECK(is_rows(rows(&some, JUNE), 17, 0, 0));
+    CHECK(is_listing(start(&some, 36525, CLOSE), 18, 0, 0, 0));
+    CHECK(is_listing(start(&some, LAST_FRIDAY, CLOSE), 20, 0, 0, 0));
+    CHECK(is_listing(start(&some, JUNE_FRIDAY, 8999), 21, 0, 0, 0));
+    CHECK(is_listing(start(&some, JUNE_FRIDAY, 955000), 21, 0, 0, 0));
+    CHECK(same(&some, &before));
+}
+
+static void test_running_register(void)
+{
+    desk some = started_desk();
+    desk before = some;
+    CHECK(is_listing(start(&some, JUNE_FRIDAY, CLOSE), 16, 0, 0, 0));
+    CHECK(is_listing(session(&some, JUNE_FRIDAY, CLOSE), 19, 0, 0, 0));
+    CHECK(is_listing(session(&some, JUNE_FRIDAY - 1, 8999), 21, 0, 0, 0));
+    CHECK(is_announce(announce(&some, JUNE + 4, 3100), 22, 0));
+    CHECK(is_announce(announce(&some, JUNE + 1, 3125), 23, 0));
+    CHECK(is_announce(announce(&some, JUNE + 1, 2800), 24, 0));
+    CHECK(same(&some, &before));
+}
+
+static void test_announcements_full(void)
+{
+    desk some = started_desk(), before;
+    unsigned waiting;
+    for (waiting = 1; waiting <= SINDHOPUL_MOST_ANNOUNCEMENTS; waiting++) {
+        CHECK(is_announce(announce(&some, JUNE, 2825 + 25 * waiting), 0, waiting));
+    }
+    before = some;
+    CHECK(is_announce(announce(&some, JUNE, 9975), 25, 0));
+    CHECK(is_announce(announce(&some, JUNE, 2850), 24, 0));
+    CHECK(same(&some, &before));
+}
+
+static void test_register_refused(void)
+{
+    desk some = started_desk(), before;
+    sindhopul_announce_result got;
+    *at(&some, 7) = 1;
+    before = some;
+    CHECK(is_listing(start(&some, JUNE_FRIDAY, CLOSE), 15, 0, 0, 0));
+    CHECK(is_listing(session(&some, JUNE_FRIDAY - 1, CLOSE), 15, 0, 0, 0));
+    CHECK(is_announce(announce(&some, JUNE, 3100), 15, 0));
+    CHECK(is_rows(rows(&some, JUNE), 15, 0, 0));
+    got = sindhopul_announce(some.calendar.bytes, SINDHOPUL_CALENDAR_BYTES, at(&some, 0),
+                             SINDHOPUL_REGISTER_BYTES + 1, JUNE, 3100);
+    CHECK(is_announce(got, 14, 0));
+    got = sindhopul_announce(some.calendar.bytes, SINDHOPUL_CALENDAR_BYTES, NULL, 0, JUNE, 3100);
+    CHECK(is_announce(got, 14, 0));
+    got = sindhopul_announce(NULL, 0, at(&some, 0), SINDHOPUL_REGISTER_BYTES, JUNE, 3100);
+    CHECK(is_announce(got, 11, 0));
+    CHECK(same(&some, &before));
+}
+
+/* With 13 the month is the first value beside the number. */
+static void test_register_without_month(void)
+{
+    desk some = started_desk(), before;
+    clear(&some.calendar, LAST_FIRST, LAST_FRIDAY);
+    before = some;
+    CHECK(is_listing(start(&some, JUNE_FRIDAY, CLOSE), 13, LAST, 0, 0));
+    CHECK(is_listing(session(&some, JUNE_FRIDAY - 1, CLOSE), 13, LAST, 0, 0));
+    CHECK(is_announce(announce(&some, JUNE, 3100), 13, LAST));
+    CHECK(same(&some, &before));
+}
+
 int main(void)
 {
     test_names_written();
@@ -214,6 +425,14 @@ int main(void)
     test_calendar_length();
     test_calendar_tail();
     test_calendar_months();
+    test_register_listed();
+    test_far_close();
+    test_rows();
+    test_empty_register();
+    test_running_register();
+    test_announcements_full();
+    test_register_refused();
+    test_register_without_month();
     if (failures > 0) {
         fprintf(stderr, "interface: %d failed\n", failures);
         return 1;

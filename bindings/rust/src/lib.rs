@@ -9,6 +9,37 @@ pub struct CalendarResult {
 
 #[repr(C)]
 #[derive(Debug, Clone, Copy, PartialEq, Eq)]
+pub struct ListingResult {
+    pub number: u16,
+    pub added: u16,
+    pub removed: u16,
+    pub rows: u16,
+}
+
+#[repr(C)]
+#[derive(Debug, Clone, Copy, PartialEq, Eq)]
+pub struct AnnounceResult {
+    pub number: u16,
+    pub waiting: u16,
+}
+
+#[repr(C)]
+#[derive(Debug, Clone, Copy, PartialEq, Eq)]
+pub struct RowsResult {
+    pub number: u16,
+    pub at: u16,
+    pub size: u16,
+}
+
+impl RowsResult {
+    /// The part of the register that the result tells of.
+    pub fn part(self, register: &[u8]) -> &[u8] {
+        &register[self.at.into()..][..self.size.into()]
+    }
+}
+
+#[repr(C)]
+#[derive(Debug, Clone, Copy, PartialEq, Eq)]
 pub struct NameResult {
     pub number: u16,
     pub month: u16,
@@ -17,10 +48,41 @@ pub struct NameResult {
 }
 
 mod archive {
-    use super::{CalendarResult, NameResult};
+    use super::{AnnounceResult, CalendarResult, ListingResult, NameResult, RowsResult};
 
     extern "C" {
         pub fn sindhopul_calendar_check(calendar: *const u8, length: usize) -> CalendarResult;
+        pub fn sindhopul_start(
+            calendar: *const u8,
+            calendar_length: usize,
+            register: *mut u8,
+            register_length: usize,
+            day: u32,
+            close: u32,
+        ) -> ListingResult;
+        pub fn sindhopul_session(
+            calendar: *const u8,
+            calendar_length: usize,
+            register: *mut u8,
+            register_length: usize,
+            day: u32,
+            close: u32,
+        ) -> ListingResult;
+        pub fn sindhopul_announce(
+            calendar: *const u8,
+            calendar_length: usize,
+            register: *mut u8,
+            register_length: usize,
+            month: u32,
+            price: u32,
+        ) -> AnnounceResult;
+        pub fn sindhopul_rows(
+            calendar: *const u8,
+            calendar_length: usize,
+            register: *const u8,
+            register_length: usize,
+            month: u32,
+        ) -> RowsResult;
         pub fn sindhopul_name_write(
             name: *mut u8,
             length: usize,
@@ -36,6 +98,65 @@ mod archive {
 pub fn calendar_check(calendar: &[u8]) -> CalendarResult {
     // SAFETY: the call reads this slice and nothing else.
     unsafe { archive::sindhopul_calendar_check(calendar.as_ptr(), calendar.len()) }
+}
+
+/// Starts an empty register on a session day.
+pub fn start(calendar: &[u8], register: &mut [u8], day: u32, close: u32) -> ListingResult {
+    // SAFETY: the call reads the calendar, reads and writes the register, and nothing else.
+    unsafe {
+        archive::sindhopul_start(
+            calendar.as_ptr(),
+            calendar.len(),
+            register.as_mut_ptr(),
+            register.len(),
+            day,
+            close,
+        )
+    }
+}
+
+/// Moves a register on to the next session day.
+pub fn session(calendar: &[u8], register: &mut [u8], day: u32, close: u32) -> ListingResult {
+    // SAFETY: the call reads the calendar, reads and writes the register, and nothing else.
+    unsafe {
+        archive::sindhopul_session(
+            calendar.as_ptr(),
+            calendar.len(),
+            register.as_mut_ptr(),
+            register.len(),
+            day,
+            close,
+        )
+    }
+}
+
+/// Announces a price of a month for the next session.
+pub fn announce(calendar: &[u8], register: &mut [u8], month: u32, price: u32) -> AnnounceResult {
+    // SAFETY: the call reads the calendar, reads and writes the register, and nothing else.
+    unsafe {
+        archive::sindhopul_announce(
+            calendar.as_ptr(),
+            calendar.len(),
+            register.as_mut_ptr(),
+            register.len(),
+            month,
+            price,
+        )
+    }
+}
+
+/// Tells where in a register a month's rows stand.
+pub fn rows(calendar: &[u8], register: &[u8], month: u32) -> RowsResult {
+    // SAFETY: the call reads these two slices and nothing else.
+    unsafe {
+        archive::sindhopul_rows(
+            calendar.as_ptr(),
+            calendar.len(),
+            register.as_ptr(),
+            register.len(),
+            month,
+        )
+    }
 }
 
 /// Writes the name of a series.

@@ -1,15 +1,68 @@
 // The C interface: exports alone, each a total function over plain slices and numbers. include/sindhopul.h declares them.
 use calendar::Checked;
+use listing::Announced;
+use listing::Listed;
 use names::Series;
+use register::Place;
 ghost use mathlib.Core.Path.{_≡_};
 ghost use Rattle.calendar.specs.Calendar.{checkOf};
 ghost use Rattle.names.specs.Names.{writeCause, written, readOf};
+ghost use Rattle.rules.specs.Rulebook.{rules};
+ghost use Rattle.rules.specs.Calls as Call;
+ghost use Rattle.register.specs.Scan.{RowsPlace};
+ghost use Rattle.listing.specs.Calls.{afterAt, listedAt, announcedAt};
 
 #[no_mangle]
 pub extern "C" fn sindhopul_calendar_check(calendar: &[u8]) -> Checked
     ensures { λ r. ⌜ r ≡ checkOf (now (calendar .entry)) ⌝ }
 {
     calendar::check(calendar)
+}
+
+#[no_mangle]
+pub extern "C" fn sindhopul_start(
+    calendar: &[u8],
+    register: &mut [u8],
+    day: u32,
+    close: u32,
+) -> Listed
+    ensures { λ r. ⌜ r ≡ listedAt (now (calendar .entry)) (Call.start day close) (now (register .entry)) ⌝ }
+    ensures { λ _. ⌜ now (register .exit) ≡ afterAt (rules (now (calendar .entry))) (Call.start day close) (now (register .entry)) ⌝ }
+{
+    listing::start(calendar, register, day, close)
+}
+
+#[no_mangle]
+pub extern "C" fn sindhopul_session(
+    calendar: &[u8],
+    register: &mut [u8],
+    day: u32,
+    close: u32,
+) -> Listed
+    ensures { λ r. ⌜ r ≡ listedAt (now (calendar .entry)) (Call.session day close) (now (register .entry)) ⌝ }
+    ensures { λ _. ⌜ now (register .exit) ≡ afterAt (rules (now (calendar .entry))) (Call.session day close) (now (register .entry)) ⌝ }
+{
+    listing::session(calendar, register, day, close)
+}
+
+#[no_mangle]
+pub extern "C" fn sindhopul_announce(
+    calendar: &[u8],
+    register: &mut [u8],
+    month: u32,
+    price: u32,
+) -> Announced
+    ensures { λ r. ⌜ r ≡ announcedAt (now (calendar .entry)) (Call.announce month price) (now (register .entry)) ⌝ }
+    ensures { λ _. ⌜ now (register .exit) ≡ afterAt (rules (now (calendar .entry))) (Call.announce month price) (now (register .entry)) ⌝ }
+{
+    announcing::announce(calendar, register, month, price)
+}
+
+#[no_mangle]
+pub extern "C" fn sindhopul_rows(calendar: &[u8], register: &[u8], month: u32) -> Place
+    ensures { λ r. ⌜ RowsPlace (rules (now (calendar .entry))) (now (register .entry)) month r ⌝ }
+{
+    register::rows_place(calendar, register, month)
 }
 
 #[no_mangle]

@@ -1,6 +1,7 @@
-//! The linked archives against the independent implementation. A run prints how much was
-//! compared and how often each call returned each number. It ends at the first difference, and
-//! fails too where a number that a call can return never came.
+//! The linked archives against the independent implementation, and registers after whole lists of
+//! calls against what the history of demand 3 demands. A run prints how much was compared and how
+//! often each call returned each number. It ends at the first difference, and fails too where a
+//! number that a call can return never came.
 //!
 //! `RATTLE_LIB_DIR=<folder of libcapi.a and liblookup.a> cargo test --release --offline`
 
@@ -9,21 +10,47 @@ mod dates;
 mod grid;
 mod names;
 mod numbers;
+mod register;
+mod room;
 mod run;
 mod sessions;
 
+use std::thread;
+
 use run::Run;
 
+type Test = fn(&mut Run);
+
+const PARTS: [(&str, Test); 13] = [
+    ("days and months", dates::test),
+    ("calendar checks", calendar::test_checks),
+    ("example calendar", calendar::test_example),
+    ("calendars in use", calendar::test_use),
+    ("live months and tiers", calendar::test_live_months),
+    ("grids and closes", grid::test),
+    ("all names", names::test_all),
+    ("names not to write", names::test_writing),
+    ("names not to read", names::test_reading),
+    ("lists of calls", register::test_lists),
+    ("full registers", register::test_full),
+    ("made registers", register::test_made),
+    ("damaged registers", register::test_damaged),
+];
+
 fn main() {
+    let mut all = Run::default();
+    // The archives have no state of their own, so the parts can run side by side.
+    thread::scope(|scope| {
+        let parts = PARTS.map(|(name, test)| (name, scope.spawn(move || run_part(test))));
+        for (name, part) in parts {
+            all.add(name, part.join().expect("the part came to its end"));
+        }
+    });
+    all.finish();
+}
+
+fn run_part(test: Test) -> Run {
     let mut run = Run::default();
-    run.part("days and months", dates::test);
-    run.part("calendar checks", calendar::test_checks);
-    run.part("example calendar", calendar::test_example);
-    run.part("calendars in use", calendar::test_use);
-    run.part("live months and tiers", calendar::test_live_months);
-    run.part("grids and closes", grid::test);
-    run.part("all names", names::test_all);
-    run.part("names not to write", names::test_writing);
-    run.part("names not to read", names::test_reading);
-    run.finish();
+    test(&mut run);
+    run
 }

@@ -1,5 +1,7 @@
 //! Numbers to try.
 
+use std::ops::RangeInclusive;
+
 /// Numbers from a limit on. Cut to 8 or 16 bits, some of them would come below it, and 65,856
 /// would be a month, and a price of every grid.
 pub fn beyond(limit: impl Into<u32>) -> impl Iterator<Item = u32> {
@@ -37,6 +39,12 @@ impl Random {
     /// A number below the bound.
     pub fn below(&mut self, bound: u16) -> u16 {
         (self.next() % u64::from(bound)) as u16
+    }
+
+    /// A number of the range.
+    pub fn within(&mut self, range: RangeInclusive<u32>) -> u32 {
+        let count = u64::from(range.end() - range.start()) + 1;
+        range.start() + (self.next() % count) as u32
     }
 
     /// True about once in so many times.

@@ -4,20 +4,40 @@ use std::collections::BTreeMap;
 use std::fmt::{Arguments, Debug};
 use std::process::exit;
 
+use independent::judge::Complaint;
+
+use crate::room::Room;
+
 /// The calls of the C interface.
 #[derive(Debug, Clone, Copy, PartialEq, Eq, PartialOrd, Ord)]
 pub enum Call {
     CalendarCheck,
+    Start,
+    Session,
+    Announce,
+    Rows,
     NameWrite,
     NameRead,
 }
 
 impl Call {
-    const ALL: [Self; 3] = [Self::CalendarCheck, Self::NameWrite, Self::NameRead];
+    const ALL: [Self; 7] = [
+        Self::CalendarCheck,
+        Self::Start,
+        Self::Session,
+        Self::Announce,
+        Self::Rows,
+        Self::NameWrite,
+        Self::NameRead,
+    ];
 
     fn name(self) -> &'static str {
         match self {
             Self::CalendarCheck => "calendar_check",
+            Self::Start => "start",
+            Self::Session => "session",
+            Self::Announce => "announce",
+            Self::Rows => "rows",
             Self::NameWrite => "name_write",
             Self::NameRead => "name_read",
         }
@@ -27,14 +47,15 @@ impl Call {
     fn numbers(self) -> &'static [u16] {
         match self {
             Self::CalendarCheck => &[0, 11, 12, 13],
+            Self::Start => &[0, 11, 12, 13, 14, 15, 16, 18, 20, 21],
+            Self::Session => &[0, 11, 12, 13, 14, 15, 17, 19, 20, 21],
+            Self::Announce => &[0, 11, 12, 13, 14, 15, 17, 20, 22, 23, 24, 25],
+            Self::Rows => &[0, 11, 12, 13, 14, 15, 17, 26],
             Self::NameWrite => &[0, 27, 28],
             Self::NameRead => &[0, 27, 28, 29],
         }
     }
 }
-
-/// The numbers of all calls, in the order of the table's columns.
-const NUMBERS: [u16; 7] = [0, 11, 12, 13, 27, 28, 29];
 
 /// What has been compared so far.
 #[derive(Default)]
@@ -54,23 +75,48 @@ impl Run {
         }
     }
 
+    /// Compares every byte of a buffer that an archive was lent, and the guard bytes around it,
+    /// with what should stand there.
+    pub fn equal_rooms(&mut self, archive: &Room, wanted: &Room, what: &str, case: Arguments) {
+        self.comparisons += 1;
+        if let Some((place, found, wanted)) = archive.difference(wanted) {
+            fail(format_args!(
+                "{case}: byte {place} of the {what} is {found}, it should be {wanted}"
+            ));
+        }
+    }
+
+    /// Takes the judge's verdict on an archive's register.
+    pub fn judged(&mut self, verdict: Result<(), Complaint>, case: Arguments) {
+        self.comparisons += 1;
+        if let Err(complaint) = verdict {
+            fail(format_args!(
+                "{case}: the history demands another register: {complaint:?}"
+            ));
+        }
+    }
+
     /// Counts a number that a call returned.
     pub fn count(&mut self, call: Call, number: u16) {
         *self.returned.entry((call, number)).or_default() += 1;
     }
 
-    /// Runs a part and tells how much it compared.
-    pub fn part(&mut self, name: &str, test: impl FnOnce(&mut Self)) {
-        let before = self.comparisons;
-        test(self);
-        println!("{name:<22}{:>12} compared", self.comparisons - before);
+    /// Adds what a part counted, and tells how much it compared.
+    pub fn add(&mut self, name: &str, part: Self) {
+        print_comparisons(name, part.comparisons);
+        self.comparisons += part.comparisons;
+        for (returned, times) in part.returned {
+            *self.returned.entry(returned).or_default() += times;
+        }
     }
 
     /// Prints how often each number came, and fails where one is missing.
     pub fn finish(&self) {
-        print_row("returned", NUMBERS.map(|number| number.to_string()));
-        for call in Call::ALL {
-            print_row(call.name(), NUMBERS.map(|number| self.cell(call, number)));
+        print_comparisons("all parts", self.comparisons);
+        print_row("returned", Call::ALL.map(|call| call.name().to_string()));
+        for number in (0..=29).filter(|&number| can_come(number)) {
+            let cells = Call::ALL.map(|call| self.cell(call, number));
+            print_row(&number.to_string(), cells);
         }
         for call in Call::ALL {
             for &number in call.numbers() {
@@ -95,14 +141,26 @@ impl Run {
     }
 }
 
-fn print_row(name: &str, cells: [String; NUMBERS.len()]) {
+fn can_come(number: u16) -> bool {
+    Call::ALL
+        .iter()
+        .any(|call| call.numbers().contains(&number))
+}
+
+fn print_comparisons(part: &str, comparisons: u64) {
+    println!("{part:<22}{comparisons:>12} compared");
+}
+
+fn print_row(name: &str, cells: [String; Call::ALL.len()]) {
     println!(
-        "{name:<16}{}",
-        cells.map(|cell| format!("{cell:>9}")).concat()
+        "{name:<10}{}",
+        cells.map(|cell| format!("{cell:>16}")).concat()
     );
 }
 
 fn fail(what: Arguments) -> ! {
-    eprintln!("host tests: {what}");
+    // Written in one piece, since other parts may be printing.
+    let line = format!("host tests: {what}\n");
+    eprint!("{line}");
     exit(1)
 }

@@ -44,6 +44,11 @@ impl Sessions {
         self.0[usize::from(day / 8)] |= 1 << (day % 8);
     }
 
+    /// Adds or removes a session.
+    pub fn flip(&mut self, day: u16) {
+        self.0[usize::from(day / 8)] ^= 1 << (day % 8);
+    }
+
     pub fn remove(&mut self, days: RangeInclusive<u16>) {
         for day in days {
             self.0[usize::from(day / 8)] &= !(1 << (day % 8));

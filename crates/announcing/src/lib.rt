@@ -1,0 +1,96 @@
+// Announce on the register's bytes.
+use listing::Announced;
+use register::MOST_WAITING;
+use register::PLACES;
+ghost use mathlib.Core.Path.{_≡_};
+ghost use mathlib.Core.List.{_++_};
+ghost use Prim.Native.Nat.{_≤_};
+ghost use lib.ListN.{length, drop};
+ghost use Rattle.calendar.specs.Calendar.{Passes};
+ghost use Rattle.calendar.specs.Live.{firstLive, liveMonths};
+ghost use Rattle.rules.specs.Rulebook.{rules};
+ghost use Rattle.rules.specs.Calls as Call;
+ghost use Rattle.register.specs.Register.{running};
+ghost use Rattle.register.specs.Bytes.{registerLength, at16, bodyOf, bytesOf};
+ghost use Rattle.register.specs.Spans.{spansOf};
+ghost use Rattle.register.proofs.Well.{Running};
+ghost use Rattle.listing.specs.Listing.{number};
+ghost use Rattle.listing.specs.Calls.{afterAt, announcedAt};
+ghost use Rattle.announcing.specs.Placing.{placeBytes, announced, Room};
+
+// Writes an announcement at the front of a part.
+fn write_place(part: &mut [u8], month: u16, price: u16)
+    requires { ⌜ 4 ≤ length (now part) ⌝ }
+    ensures { λ _. ⌜ now (part .exit) ≡ placeBytes month price ++ drop 4 (now (part .entry)) ⌝ }
+{
+    part[0] = (month % 256) as u8;
+    part[1] = (month / 256) as u8;
+    part[2] = (price % 256) as u8;
+    part[3] = (price / 256) as u8;
+}
+
+// Puts an announcement into the next free place. Returns how many wait.
+fn put_announcement(register: &mut [u8], month: u16, price: u16) -> u16
+    requires { ⌜ Room (now register) ⌝ }
+    ensures { λ r. ⌜ r ≡ length (announced (bodyOf (now (register .entry))) month price .waiting) ⌝ }
+    ensures { λ _. ⌜ now (register .exit) ≡ bytesOf (running (announced (bodyOf (now (register .entry))) month price)) ⌝ }
+{
+    let waiting = register[1];
+    let at = PLACES + 4 * (waiting as usize);
+    write_place(&mut register[at..], month, price);
+    register[1] = waiting + 1;
+    (waiting as u16) + 1
+}
+
+// An announcement's own causes, on a register that runs and is well formed, with its spans.
+fn announce_cause(
+    calendar: &[u8],
+    register: &[u8],
+    spans: [[u16; 2]; 6],
+    month: u32,
+    price: u32,
+) -> u16
+    requires { ⌜ Passes (now calendar) × (length (now register) ≡ registerLength) ⌝ }
+    requires { ⌜ Running (now calendar) (now register) ⌝ }
+    requires { ⌜ spans ≡ spansOf (bodyOf (now register)) (liveMonths (firstLive (now calendar) (at16 (now register) 2))) ⌝ }
+    ensures { λ r. ⌜ r ≡ number (rules (now (calendar .entry))) (Call.announce month price) (running (bodyOf (now (register .entry)))) ⌝ }
+{
+    let day = register::word(register, 2);
+    let first = calendar::first_live(calendar, day);
+    let next = register::next_first(calendar, day);
+    let places = register[1] as usize;
+    let waits = register::waits(register, PLACES, places, month, price);
+    let number = register::refusal(calendar, day, first, next, spans, waits, month, price);
+    if number != 0 {
+        return number;
+    }
+    if MOST_WAITING <= places { 25 } else { 0 }
+}
+
+// Month and price, to be introduced by the next session. An entry point: it takes any bytes and any numbers.
+pub fn announce(calendar: &[u8], register: &mut [u8], month: u32, price: u32) -> Announced
+    ensures { λ r. ⌜ r ≡ announcedAt (now (calendar .entry)) (Call.announce month price) (now (register .entry)) ⌝ }
+    ensures { λ _. ⌜ now (register .exit) ≡ afterAt (rules (now (calendar .entry))) (Call.announce month price) (now (register .entry)) ⌝ }
+{
+    let opening = register::opening(calendar, register);
+    if opening.number != 0 {
+        return Announced {
+            number: opening.number,
+            waiting: opening.month,
+        };
+    }
+    let spans = register::standing(calendar, register);
+    let span = spans[0];
+    if span[0] == 0 {
+        return Announced {
+            number: 15,
+            waiting: 0,
+        };
+    }
+    let number = announce_cause(calendar, register, spans, month, price);
+    if number != 0 {
+        return Announced { number, waiting: 0 };
+    }
+    let waiting = put_announcement(register, month as u16, price as u16);
+    Announced { number: 0, waiting }
+}

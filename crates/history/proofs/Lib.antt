@@ -1,0 +1,6 @@
+pub mod Simulation
+pub mod Sound
+pub mod Ascend
+pub mod Closing
+pub mod JournalLaws
+pub mod Outcomes

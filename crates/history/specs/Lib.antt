@@ -1,0 +1,3 @@
+pub mod History
+pub mod Claim
+pub mod Journal

@@ -1,0 +1,7 @@
+pub mod OldRows
+pub mod Between
+pub mod Parts
+pub mod Ladder
+pub mod Ladders
+pub mod SpanLaws
+pub mod Relisted

@@ -1,0 +1,104 @@
+-- `ladders::spans::close_spans` meets its contract: the first i places are filled.
+-- Assumes nothing.
+use mathlib.Core.Path.{_≡_}
+use mathlib.Core.List.{List, []}
+use Prim.Native.Nat.{ℕ, _-_, _≤_}
+use native.Mathlib.Omega.{arith}
+use lib.ListN.{length, getD, length-set}
+use borrow.Author.Needs.{needs}
+use Rattle.calendar.specs.Live.{tierOf}
+use Rattle.grid.specs.Grid.{requiredLow, requiredHigh}
+use Rattle.ladders.specs.Spans.{closePair, closeSpans}
+use Rattle.ladders.proofs.SpanLaws.{Filled, filled-more, filled}
+use Rattle.ladders.proofs.spans.close_spans.Statement.{statement}
+use Rattle.ladders.proofs.spans.close_spans.Tie as tie
+
+abbrev pair : List ℕ → List (List ℕ) → ℕ → ℕ → List ℕ
+pair months held close i =
+    closePair (getD held i []) (requiredLow (tierOf (getD months 0 0) (getD months i 0)) close) (requiredHigh (tierOf (getD months 0 0) (getD months i 0)) close)
+
+abbrev Inv-loop : tie.InvT-loop
+Inv-loop close months held spans₀ i₀ spans i = (i ≤ 6) × (length spans ≡ 6) × Filled (pair months held close) spans i
+
+abbrev μ-loop : tie.MeasureT-loop
+μ-loop close months held spans₀ i₀ spans i = 6 - i
+
+loop-holds : tie.Need-loop-holds Inv-loop μ-loop
+loop-holds c = (omega arith, search needs, λ k h. absurd (omega arith))
+
+mul-month : tie.Need-mul-month Inv-loop μ-loop
+mul-month c = search needs
+
+array-read-month : tie.Need-array-read-month Inv-loop μ-loop
+array-read-month c = search needs
+
+array-read-tier-of : tie.Need-array-read-tier-of Inv-loop μ-loop
+array-read-tier-of c = search needs
+
+tier-of-requires : tie.Need-tier-of-requires Inv-loop μ-loop
+tier-of-requires c κs = search needs
+
+required-strikes-requires : tie.Need-required-strikes-requires Inv-loop μ-loop
+required-strikes-requires c κs = search needs
+
+mul-was : tie.Need-mul-was Inv-loop μ-loop
+mul-was c = search needs
+
+array-copy-out-was : tie.Need-array-copy-out-was Inv-loop μ-loop
+array-copy-out-was c = search needs
+
+close-pair-requires : tie.Need-close-pair-requires Inv-loop μ-loop
+close-pair-requires c κs = search needs
+
+mul-spans : tie.Need-mul-spans Inv-loop μ-loop
+mul-spans c = search needs
+
+array-set-from-spans : tie.Need-array-set-from-spans Inv-loop μ-loop
+array-set-from-spans c = search needs
+
+add-i : tie.Need-add-i Inv-loop μ-loop
+add-i c = search needs
+
+loop-less : tie.Need-loop-less Inv-loop μ-loop
+loop-less c = search needs
+
+loop-again : tie.Need-loop-again Inv-loop μ-loop
+loop-again c =
+    let r = c .before .before in
+    let t = r .before .before in
+    let l = t .before .loop in
+    let a = t .before .before .args in
+    let e = rw (r .required-strikes .ensures .0, r .required-strikes .ensures .1, r .before .tier-of .ensures) at (c .close-pair .ensures) in (
+      omega (arith, t),
+      simp length-set (l .inv .1),
+      filled-more (pair (a .t1) (a .t2) (a .close)) (l .spans) (l .i) (c .close-pair .result) (omega (arith, t)) (l .inv .2) e,
+    )
+
+returns : tie.Need-returns Inv-loop μ-loop
+unfolding closeSpans
+returns c =
+    let l = c .before .loop in
+    let a = c .before .before .args in
+    filled (pair (a .t1) (a .t2) (a .close)) (l .spans) (l .i) (c .loop-test .left) (l .inv .1) (l .inv .2)
+
+pub close-spans-spec : {M : Type 1} → statement M
+close-spans-spec =
+    tie.close
+    (tie.spec
+    Inv-loop
+    μ-loop
+    loop-holds
+    mul-month
+    array-read-month
+    array-read-tier-of
+    tier-of-requires
+    required-strikes-requires
+    mul-was
+    array-copy-out-was
+    close-pair-requires
+    mul-spans
+    array-set-from-spans
+    add-i
+    loop-less
+    loop-again
+    returns)

@@ -1,0 +1,96 @@
+-- `ladders::spans::new_spans` meets its contract: the first i places are filled.
+-- Assumes nothing.
+use mathlib.Core.Path.{_≡_}
+use mathlib.Core.List.{List, []}
+use Prim.Native.Nat.{ℕ, _-_, _≤_}
+use native.Mathlib.Omega.{arith}
+use lib.ListN.{length, getD, drop, length-set}
+use borrow.Author.Needs.{needs}
+use Rattle.register.specs.Bytes.{readPlaces}
+use Rattle.ladders.specs.Spans.{newPair, newSpans}
+use Rattle.ladders.proofs.SpanLaws.{Filled, filled-more, filled}
+use Rattle.ladders.proofs.spans.new_spans.Statement.{statement}
+use Rattle.ladders.proofs.spans.new_spans.Tie as tie
+
+abbrev pair : List ℕ → ℕ → List ℕ → List (List ℕ) → List (List ℕ) → ℕ → List ℕ
+pair register n months held wide i = newPair (readPlaces n (drop 8 register)) (getD months i 0) (getD held i []) (getD wide i [])
+
+abbrev Inv-loop : tie.InvT-loop
+Inv-loop register n months held wide spans₀ i₀ spans i = (i ≤ 6) × (length spans ≡ 6) × Filled (pair register n months held wide) spans i
+
+abbrev μ-loop : tie.MeasureT-loop
+μ-loop register n months held wide spans₀ i₀ spans i = 6 - i
+
+loop-holds : tie.Need-loop-holds Inv-loop μ-loop
+loop-holds c = (omega arith, search needs, λ k h. absurd (omega arith))
+
+mul-month : tie.Need-mul-month Inv-loop μ-loop
+mul-month c = search needs
+
+array-read-month : tie.Need-array-read-month Inv-loop μ-loop
+array-read-month c = search needs
+
+mul-was : tie.Need-mul-was Inv-loop μ-loop
+mul-was c = search needs
+
+array-copy-out-was : tie.Need-array-copy-out-was Inv-loop μ-loop
+array-copy-out-was c = search needs
+
+mul-wider : tie.Need-mul-wider Inv-loop μ-loop
+mul-wider c = search needs
+
+array-copy-out-wider : tie.Need-array-copy-out-wider Inv-loop μ-loop
+array-copy-out-wider c = search needs
+
+new-pair-requires : tie.Need-new-pair-requires Inv-loop μ-loop
+new-pair-requires c κs = search needs
+
+mul-spans : tie.Need-mul-spans Inv-loop μ-loop
+mul-spans c = search needs
+
+array-set-from-spans : tie.Need-array-set-from-spans Inv-loop μ-loop
+array-set-from-spans c = search needs
+
+add-i : tie.Need-add-i Inv-loop μ-loop
+add-i c = search needs
+
+loop-less : tie.Need-loop-less Inv-loop μ-loop
+loop-less c = search needs
+
+loop-again : tie.Need-loop-again Inv-loop μ-loop
+loop-again c =
+    let t = c .before .before .before in
+    let l = t .before .loop in
+    let a = t .before .before .before .args in (
+      omega (arith, t),
+      simp length-set (l .inv .1),
+      filled-more (pair (a .register .now) (a .n) (a .t3) (a .t4) (a .t5)) (l .spans) (l .i) (c .new-pair .result) (omega (arith, t)) (l .inv .2) (c .new-pair .ensures),
+    )
+
+returns : tie.Need-returns Inv-loop μ-loop
+unfolding newSpans
+returns c =
+    let l = c .before .loop in
+    let a = c .before .before .before .args in
+    filled (pair (a .register .now) (a .n) (a .t3) (a .t4) (a .t5)) (l .spans) (l .i) (c .loop-test .left) (l .inv .1) (l .inv .2)
+
+pub new-spans-spec : {M : Type 1} → statement M
+new-spans-spec =
+    tie.close
+    (tie.spec
+    Inv-loop
+    μ-loop
+    loop-holds
+    mul-month
+    array-read-month
+    mul-was
+    array-copy-out-was
+    mul-wider
+    array-copy-out-wider
+    new-pair-requires
+    mul-spans
+    array-set-from-spans
+    add-i
+    loop-less
+    loop-again
+    returns)

@@ -1,0 +1,103 @@
+-- `ladders::spans::same_spans` meets its contract: what is left to compare decides.
+-- Assumes nothing.
+use mathlib.Core.Path.{_≡_, refl, sym, _∙_}
+use mathlib.Core.Bool.{_&&_}
+use mathlib.Core.List.{[]}
+use Prim.Native.Nat.{_+_, _-_, _≤_}
+use native.Mathlib.Omega.{arith}
+use lib.Dec.{eqb}
+use lib.ListN.{drop, getD}
+use borrow.Author.Needs.{needs}
+use borrow.Author.Tests.{eq-eqb, ne-eqb}
+use Rattle.ladders.specs.Spans.{sameSpans}
+use Rattle.ladders.proofs.SpanLaws.{same-step, same-end}
+use Rattle.ladders.proofs.spans.same_spans.Statement.{statement}
+use Rattle.ladders.proofs.spans.same_spans.Tie as tie
+
+abbrev Inv-loop : tie.InvT-loop
+Inv-loop a b i₀ i = (i ≤ 6) × (sameSpans a b ≡ sameSpans (drop i a) (drop i b))
+
+abbrev μ-loop : tie.MeasureT-loop
+μ-loop a b i₀ i = 6 - i
+
+-- the comparison at a turn
+step : (c : tie.In-loop Inv-loop μ-loop)
+    → let a = c .before .before .args in
+    let i = c .before .loop .i in
+    sameSpans (a .t1) (a .t2)
+    ≡ (eqb (getD (getD (a .t1) i []) 0 0) (getD (getD (a .t2) i []) 0 0)
+    && (eqb (getD (getD (a .t1) i []) 1 0) (getD (getD (a .t2) i []) 1 0) && sameSpans (drop (i + 1) (a .t1)) (drop (i + 1) (a .t2))))
+step c =
+    let l = c .before .loop in
+    let a = c .before .before .args in
+    l .inv .1 ∙ same-step (a .t1) (a .t2) (l .i) (search needs) (search needs)
+
+loop-holds : tie.Need-loop-holds Inv-loop μ-loop
+loop-holds c = (omega arith, refl)
+
+mul-s : tie.Need-mul-s Inv-loop μ-loop
+mul-s c = search needs
+
+array-copy-out-s : tie.Need-array-copy-out-s Inv-loop μ-loop
+array-copy-out-s c = search needs
+
+mul-t : tie.Need-mul-t Inv-loop μ-loop
+mul-t c = search needs
+
+array-copy-out-t : tie.Need-array-copy-out-t Inv-loop μ-loop
+array-copy-out-t c = search needs
+
+array-read-if1 : tie.Need-array-read-if1 Inv-loop μ-loop
+array-read-if1 c = search needs
+
+array-read-if1-2 : tie.Need-array-read-if1-2 Inv-loop μ-loop
+array-read-if1-2 c = search needs
+
+returns : tie.Need-returns Inv-loop μ-loop
+returns c = sym (step (c .before .before .before) ∙ rw (ne-eqb _ _ (c .if1 .taken)))
+
+array-read-if2 : tie.Need-array-read-if2 Inv-loop μ-loop
+array-read-if2 c = search needs
+
+array-read-if2-2 : tie.Need-array-read-if2-2 Inv-loop μ-loop
+array-read-if2-2 c = search needs
+
+returns-2 : tie.Need-returns-2 Inv-loop μ-loop
+returns-2 c = sym (step (c .before .before .before .before) ∙ rw (eq-eqb _ _ (c .before .if1 .left), ne-eqb _ _ (c .if2 .taken)))
+
+add-i : tie.Need-add-i Inv-loop μ-loop
+add-i c = search needs
+
+loop-less : tie.Need-loop-less Inv-loop μ-loop
+loop-less c = search needs
+
+loop-again : tie.Need-loop-again Inv-loop μ-loop
+loop-again c = (search needs, step (c .before .before .before .before) ∙ rw (eq-eqb _ _ (c .before .if1 .left), eq-eqb _ _ (c .if2 .left)))
+
+returns-3 : tie.Need-returns-3 Inv-loop μ-loop
+returns-3 c =
+    let l = c .before .loop in
+    let a = c .before .before .args in
+    sym (l .inv .1 ∙ same-end (a .t1) (a .t2) (l .i) (search needs) (search needs))
+
+pub same-spans-spec : {M : Type 1} → statement M
+same-spans-spec =
+    tie.close
+    (tie.spec
+    Inv-loop
+    μ-loop
+    loop-holds
+    mul-s
+    array-copy-out-s
+    mul-t
+    array-copy-out-t
+    array-read-if1
+    array-read-if1-2
+    returns
+    array-read-if2
+    array-read-if2-2
+    returns-2
+    add-i
+    loop-less
+    loop-again
+    returns-3)

@@ -1,0 +1,111 @@
+-- `ladders::spans::with_announced` meets its contract: the span so far takes in what is left to the same span.
+-- Assumes nothing.
+use mathlib.Core.Path.{_≡_, refl, sym, ap, _∙_}
+use mathlib.Core.Logic.{⊎-elim}
+use mathlib.Core.List.{List, [], _∷_}
+use Prim.Native.Nat.{ℕ, _+_, _-_, _*_, _≤_, _<_}
+use native.Mathlib.Omega.{arith}
+use lib.ListN.{length, drop}
+use borrow.Author.Needs.{needs}
+use Rattle.base.specs.Lists.{leastOf, greatestOf}
+use Rattle.register.specs.Register.{waitingOf}
+use Rattle.register.specs.Bytes.{readPlaces}
+use Rattle.ladders.specs.Spans.{announcedPair}
+use Rattle.ladders.proofs.SpanLaws.{places-next, announced-next, announced-other}
+use Rattle.ladders.proofs.spans.with_announced.Statement.{statement}
+use Rattle.ladders.proofs.spans.with_announced.Tie as tie
+
+abbrev Inv-loop : tie.InvT-loop
+Inv-loop register n month low₀ high₀ k₀ low high k =
+    (k ≤ n)
+    × (announcedPair (readPlaces n (drop 8 register)) month (low₀ ∷ high₀ ∷ []) ≡ announcedPair (readPlaces (n - k) (drop (8 + 4 * k) register)) month (low ∷ high ∷ []))
+
+abbrev μ-loop : tie.MeasureT-loop
+μ-loop register n month low₀ high₀ k₀ low high k = n - k
+
+array-read-low : tie.Need-array-read-low Inv-loop μ-loop
+array-read-low c = search needs
+
+array-read-high : tie.Need-array-read-high Inv-loop μ-loop
+array-read-high c = search needs
+
+loop-holds : tie.Need-loop-holds Inv-loop μ-loop
+loop-holds c = let e : c .before .args .n - 0 ≡ c .before .args .n = omega arith in (omega arith, rw e)
+
+mul-word : tie.Need-mul-word Inv-loop μ-loop
+mul-word c = search needs
+
+add-word : tie.Need-add-word Inv-loop μ-loop
+add-word c = search needs
+
+word-requires : tie.Need-word-requires Inv-loop μ-loop
+word-requires c κs = search needs
+
+mul-word-2 : tie.Need-mul-word-2 Inv-loop μ-loop
+mul-word-2 c = search needs
+
+add-word-2 : tie.Need-add-word-2 Inv-loop μ-loop
+add-word-2 c = search needs
+
+add-word-3 : tie.Need-add-word-3 Inv-loop μ-loop
+add-word-3 c = search needs
+
+word-requires-2 : tie.Need-word-requires-2 Inv-loop μ-loop
+word-requires-2 c κs = search needs
+
+lower-requires : tie.Need-lower-requires Inv-loop μ-loop
+lower-requires c κs = search needs
+
+higher-requires : tie.Need-higher-requires Inv-loop μ-loop
+higher-requires c κs = search needs
+
+add-k : tie.Need-add-k Inv-loop μ-loop
+add-k c = search needs
+
+loop-less : tie.Need-loop-less Inv-loop μ-loop
+loop-less c = search needs
+
+loop-again : tie.Need-loop-again Inv-loop μ-loop
+loop-again c =
+    let t = c .before .before in
+    let l = t .before .loop in
+    let a = t .before .before .before .args in
+    let bs : List ℕ = a .register .now in
+    let e = l .inv .1 ∙ ap (λ (ws : List (ℕ × ℕ)). announcedPair ws (a .month) (l .low ∷ l .high ∷ [])) (places-next bs (a .n) (l .k) (t .loop-test .taken)) in
+    let ws : List (ℕ × ℕ) = readPlaces (a .n - (l .k + 1)) (drop (8 + 4 * (l .k + 1)) bs) in (
+      search needs,
+      ⊎-elim
+          (λ w. rw (w .4, w .5, w .2 .ensures, w .3 .ensures, w .1 .ensures) (e ∙ announced-next ws (a .month) (l .low) (l .high) _ _ (sym (c .before .word .ensures) ∙ w .0 .taken)))
+          (λ w. rw (w .1, w .2) (e ∙ announced-other ws (a .month) (l .low) (l .high) _ _ (λ q. w .0 .left (c .before .word .ensures ∙ q))))
+          (c .if1 .came),
+    )
+
+returns : tie.Need-returns Inv-loop μ-loop
+unfolding announcedPair waitingOf leastOf greatestOf readPlaces
+returns c =
+    let l = c .before .loop in
+    let e : c .before .before .before .args .n - l .k ≡ 0 = omega arith in
+    sym (rw e at (l .inv .1))
+
+pub with-announced-spec : {M : Type 1} → statement M
+with-announced-spec =
+    tie.close
+    (tie.spec
+    Inv-loop
+    μ-loop
+    array-read-low
+    array-read-high
+    loop-holds
+    mul-word
+    add-word
+    word-requires
+    mul-word-2
+    add-word-2
+    add-word-3
+    word-requires-2
+    lower-requires
+    higher-requires
+    add-k
+    loop-less
+    loop-again
+    returns)

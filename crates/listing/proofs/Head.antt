@@ -1,0 +1,38 @@
+-- Laws of the head: its writer, and the register that a head and rows make.
+-- Assumes nothing.
+use mathlib.Core.Path.{_≡_, refl, ap, _∙_}
+use mathlib.Core.List.{List, [], _∷_, _++_}
+use Prim.Native.Nat.{ℕ, _+_, _-_, _*_, _/_, _≤_}
+use native.Mathlib.Omega.{arith}
+use lib.ListN.{length, take, drop, replicate, length-append, length-drop}
+use lib.Seq.{sets, sets-eq, length-take-le, drop-drop, drop-at}
+use borrow.Rule.Slice.PartMut.{putMid}
+use Rattle.register.specs.Rows.{Row}
+use Rattle.register.specs.Bytes.{registerLength, two, placesBytes, rowsBytes, padded, bodyBytes, bytesOf}
+use Rattle.listing.specs.Writing.{quiet, headBytes}
+
+-- the eight bytes over a head of which the places are cleared
+pub head-is : (d n : ℕ) (xs zs : List ℕ) → 136 ≤ length xs → zs ≡ replicate (length (take 128 (drop 8 xs))) 0
+    → sets (putMid 8 128 xs zs) 0 (1 ∷ 0 ∷ two d (two n (0 ∷ 0 ∷ []))) ≡ headBytes d n ++ drop 136 xs
+unfolding headBytes two
+head-is d n xs zs h e =
+    let a : length (take 8 xs) ≡ 8 = length-take-le 8 xs (omega arith) in
+    let k : 128 ≤ length (drop 8 xs) = simp length-drop (omega arith) in
+    let b : length (take 128 (drop 8 xs)) ≡ 128 = length-take-le 128 (drop 8 xs) k in
+    let z : zs ≡ replicate 128 0 = e ∙ ap (λ (m : ℕ). replicate {A = ℕ} m 0) b in
+    let w : putMid 8 128 xs zs ≡ take 8 xs ++ (replicate 128 0 ++ drop 136 xs) = rw (z, drop-drop 128 8 xs) in
+    let l : 0 + 8 ≤ length (take 8 xs ++ (replicate 128 0 ++ drop 136 xs)) = simp length-append (omega arith) in
+    rw w (sets-eq (1 ∷ 0 ∷ two d (two n (0 ∷ 0 ∷ []))) (take 8 xs ++ (replicate 128 0 ++ drop 136 xs)) 0 l
+    ∙ rw (drop-at (take 8 xs) (replicate 128 0 ++ drop 136 xs) 8 a))
+
+-- a head over rows is the register in which nothing waits
+pub quiet-is : (d : ℕ) (rows : List Row) → headBytes d (length rows) ++ padded 11128 (rowsBytes rows) ≡ bytesOf (quiet d rows)
+unfolding bytesOf bodyBytes headBytes padded placesBytes two
+quiet-is d rows = refl
+
+pub listed-head : (d : ℕ) (rows : List Row) (end : ℕ) (start mid out : List ℕ) → length start ≡ registerLength → end ≡ 136 + 8 * length rows
+    → mid ≡ take 136 start ++ padded 11128 (rowsBytes rows) → out ≡ headBytes d ((end - 136) / 8) ++ drop 136 mid
+    → ((end - 136) / 8 ≡ length rows) × (out ≡ bytesOf (quiet d rows))
+listed-head d rows end start mid out s e m o =
+    let n : (end - 136) / 8 ≡ length rows = omega arith in
+    (n, o ∙ rw (n, m, drop-at (take 136 start) (padded 11128 (rowsBytes rows)) 136 (length-take-le 136 start (omega arith))) (quiet-is d rows))

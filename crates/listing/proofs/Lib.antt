@@ -1,0 +1,9 @@
+pub mod Opens
+pub mod Head
+pub mod Answers
+pub mod Counting
+pub mod Plans
+pub mod Starts
+pub mod Before
+pub mod NextMonth
+pub mod Sessions

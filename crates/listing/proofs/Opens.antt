@@ -1,0 +1,176 @@
+-- The causes of a call, one after the other.
+-- Assumes nothing.
+use mathlib.Core.Path.{_≡_, refl, sym, ap, _∙_}
+use mathlib.Core.Bool.{Bool, true, false, cond, not, _&&_}
+use mathlib.Core.List.{List, [], _∷_}
+use Prim.Native.Nat.{ℕ, _≤_, _<_}
+use native.Mathlib.Omega.{arith}
+use lib.Dec.{eqb, ltb}
+use lib.ListN.{length, getD}
+use borrow.Author.Tests.{eqb-true, eqb-false, eq-eqb, ne-eqb, lt-ltb, le-ltb, ltb-false, not-false}
+use Rattle.base.specs.Search.{someIn}
+use Rattle.base.specs.Causes.{cause, firstOf}
+use Rattle.base.proofs.Tests.{byBool, byLe, and-l}
+use Rattle.base.proofs.CauseLaws.{none-of, not-cause, caused, passed}
+use Rattle.dates.specs.Months.{monthCount, dayCount}
+use Rattle.calendar.specs.Calendar.{calendarLength, session, tailSet, lacks, calendarCauses, calendarCause, firstLacking, Passes, nextSession}
+use Rattle.calendar.specs.Live.{firstLive}
+use Rattle.calendar.proofs.LiveLaws.{live-day}
+use Rattle.grid.specs.Grid.{closeTaken}
+use Rattle.rules.specs.Rules.{lastFirstMonth}
+use Rattle.rules.specs.Rulebook.{firstAt, rules}
+use Rattle.rules.specs.Calls.{start, session as sessionCall}
+use Rattle.register.specs.Register.{Body, empty, running}
+use Rattle.register.specs.Bytes.{registerLength, allZero}
+use Rattle.listing.specs.declared.Opening.{Opening}
+use Rattle.listing.specs.Listing.{number}
+use Rattle.listing.specs.Writing.{openingCause, openingOf, listingCause, Taken}
+
+-- a number that is not 0 decides, and of one number alone that is the first
+pub decides : (n : ℕ) (ns : List ℕ) → (n ≡ 0 → ⊥) → firstOf (n ∷ ns) ≡ n
+unfolding firstOf
+decides n ns h = rw (ne-eqb n 0 h)
+
+pub alone : (n : ℕ) → firstOf (n ∷ []) ≡ n
+unfolding firstOf
+alone n = byBool (eqb n 0) (λ e. rw e (sym (eqb-true n 0 e))) (λ e. rw e)
+
+-- ---- how a call opens
+module _ (cal bs : List ℕ) where
+  pub opens-as : (n m : ℕ) → openingCause cal bs ≡ n → m ≡ cond (eqb n 13) (firstLacking cal) 0 → _≡_ {A = Opening} (record { number = n; month = m }) (openingOf cal bs)
+  unfolding openingOf
+  opens-as n m e f =
+      let g : m ≡ cond (eqb (openingCause cal bs) 13) (firstLacking cal) 0 = f ∙ ap (λ (k : ℕ). cond (eqb k 13) (firstLacking cal) 0) (sym e) in
+      λ i. record { number = sym e i; month = g i }
+
+  pub opens-with : (o : Opening) → o ≡ openingOf cal bs → o .number ≡ openingCause cal bs
+  unfolding openingOf
+  opens-with o e = ap (λ (o : Opening). o .number) e
+
+  pub opens-calendar : (calendarCause cal ≡ 0 → ⊥) → openingCause cal bs ≡ calendarCause cal
+  unfolding openingCause
+  opens-calendar h = decides (calendarCause cal) _ h
+
+  module _ (p : Passes cal) where
+    rest : openingCause cal bs ≡ firstOf (cause (not (eqb (length bs) registerLength)) 14 ∷ cause (eqb (getD bs 0 0) 0) (cond (allZero bs) 17 15) ∷ [])
+    unfolding openingCause firstOf
+    rest = rw p
+
+    pub opens-length : (length bs ≡ registerLength → ⊥) → openingCause cal bs ≡ 14
+    opens-length h = rest ∙ caused (not (eqb (length bs) registerLength)) 13 _ (ap not (ne-eqb (length bs) registerLength h))
+
+    pub opens-status : length bs ≡ registerLength → openingCause cal bs ≡ cause (eqb (getD bs 0 0) 0) (cond (allZero bs) 17 15)
+    opens-status h = rest ∙ passed (not (eqb (length bs) registerLength)) 14 _ (ap not (eq-eqb (length bs) registerLength h)) ∙ alone _
+
+-- the calendar's causes are 11 to 13
+calendar-low : (a b c : Bool) → firstOf (cause a 11 ∷ cause b 12 ∷ cause c 13 ∷ []) ≤ 13
+unfolding firstOf cause
+calendar-low true b c = omega arith
+calendar-low false true c = omega arith
+calendar-low false false true = omega arith
+calendar-low false false false = omega arith
+
+-- the four ways in which a call opens
+pub data Opens (cal bs : List ℕ) (n : ℕ) : Type 0 where
+  by-calendar : (calendarCause cal ≡ 0 → ⊥) → n ≡ calendarCause cal → n ≤ 13 → Opens cal bs n
+  by-length : Passes cal → (length bs ≡ registerLength → ⊥) → n ≡ 14 → Opens cal bs n
+  by-status : Passes cal → length bs ≡ registerLength → getD bs 0 0 ≡ 0 → n ≡ cond (allZero bs) 17 15 → Opens cal bs n
+  goes-on : Passes cal → length bs ≡ registerLength → (getD bs 0 0 ≡ 0 → ⊥) → n ≡ 0 → Opens cal bs n
+
+pub opens : (cal bs : List ℕ) → Opens cal bs (openingCause cal bs)
+unfolding cause calendarCause calendarCauses
+opens cal bs =
+    byBool (eqb (calendarCause cal) 0)
+    (λ c.
+    let p : Passes cal = eqb-true (calendarCause cal) 0 c in
+    byBool (eqb (length bs) registerLength)
+    (λ l.
+    let s = opens-status cal bs p (eqb-true (length bs) registerLength l) in
+    byBool (eqb (getD bs 0 0) 0)
+    (λ e. by-status p (eqb-true (length bs) registerLength l) (eqb-true (getD bs 0 0) 0 e) (s ∙ rw e))
+    (λ e. goes-on p (eqb-true (length bs) registerLength l) (eqb-false (getD bs 0 0) 0 e) (s ∙ rw e)))
+    (λ l. let h = eqb-false (length bs) registerLength l in by-length p h (opens-length cal bs p h)))
+    (λ c. let h = eqb-false (calendarCause cal) 0 c in by-calendar h (opens-calendar cal bs h) (rw (opens-calendar cal bs h) low))
+  where
+    low : calendarCause cal ≤ 13
+    low = calendar-low (not (eqb (length cal) calendarLength)) (tailSet cal) (someIn (lacks cal) 0 monthCount)
+
+-- the register is empty, or its status shows that it may run
+zero-first : (bs : List ℕ) → allZero bs ≡ true → getD bs 0 0 ≡ 0
+unfolding allZero
+zero-first [] z = refl
+zero-first (y ∷ ys) z = eqb-true y 0 (and-l (eqb y 0) _ z)
+
+pub opens-empty : (cal bs : List ℕ) → openingCause cal bs ≡ 17 → Passes cal × (length bs ≡ registerLength) × (allZero bs ≡ true)
+opens-empty cal bs o = by (opens cal bs)
+  where
+    by : Opens cal bs (openingCause cal bs) → Passes cal × (length bs ≡ registerLength) × (allZero bs ≡ true)
+    by (by-calendar c n l) = absurd (omega arith)
+    by (by-length p l n) = absurd (omega arith)
+    by (by-status p l s n) = (p, l, byBool (allZero bs) (λ z. z) (λ z. let q : openingCause cal bs ≡ 15 = n ∙ rw z in absurd (omega arith)))
+    by (goes-on p l s n) = absurd (omega arith)
+
+pub opens-running : (cal bs : List ℕ) → openingCause cal bs ≡ 0 → Passes cal × (length bs ≡ registerLength) × (allZero bs ≡ false)
+opens-running cal bs o = by (opens cal bs)
+  where
+    by : Opens cal bs (openingCause cal bs) → Passes cal × (length bs ≡ registerLength) × (allZero bs ≡ false)
+    by (by-calendar c n l) = absurd (c (sym n ∙ o))
+    by (by-length p l n) = absurd (omega arith)
+    by (by-status p l s n) =
+        byBool (allZero bs)
+        (λ z. let q : openingCause cal bs ≡ 17 = n ∙ rw z in absurd (omega arith))
+        (λ z. let q : openingCause cal bs ≡ 15 = n ∙ rw z in absurd (omega arith))
+    by (goes-on p l s n) = (p, l, byBool (allZero bs) (λ z. absurd (s (zero-first bs z))) (λ z. z))
+
+-- ---- causes 20 and 21
+module _ (cal : List ℕ) (day close : ℕ) where
+  pub late : lastFirstMonth < firstLive cal day → listingCause cal day close ≡ 20
+  unfolding listingCause
+  late h = caused (ltb lastFirstMonth (firstLive cal day)) 19 _ (lt-ltb lastFirstMonth (firstLive cal day) h)
+
+  pub past-the-end : dayCount ≤ day → listingCause cal day close ≡ 20
+  past-the-end h = late (byLe (firstLive cal day) lastFirstMonth (λ l. absurd (omega (arith, live-day cal day (omega arith)))) (λ l. l))
+
+  pub in-time : firstLive cal day ≤ lastFirstMonth → listingCause cal day close ≡ cause (not (closeTaken close)) 21
+  unfolding listingCause
+  in-time h = passed (ltb lastFirstMonth (firstLive cal day)) 20 _ (le-ltb lastFirstMonth (firstLive cal day) h) ∙ alone _
+
+  -- a day and a close without these causes are taken
+  pub none-late : Passes cal → listingCause cal day close ≡ 0 → Taken cal day close
+  unfolding listingCause
+  none-late p z =
+      let c = none-of _ _ z in
+      record {
+        passes = p;
+        live = ltb-false lastFirstMonth (firstLive cal day) (not-cause (ltb lastFirstMonth (firstLive cal day)) 19 (c .0));
+        close-taken = not-false (closeTaken close) (not-cause (not (closeTaken close)) 20 (none-of _ _ (c .1) .0));
+      }
+
+  -- ---- a start's own causes
+  pub no-start : (ltb day dayCount && session cal day) ≡ false → number (rules cal) (start day close) empty ≡ 18
+  unfolding number rules
+  no-start h = caused (not (ltb day dayCount && session cal day)) 17 _ (ap not h)
+
+  pub start-goes : (ltb day dayCount && session cal day) ≡ true → number (rules cal) (start day close) empty ≡ listingCause cal day close
+  unfolding number rules listingCause firstAt
+  start-goes h = passed (not (ltb day dayCount && session cal day)) 18 _ (ap not h)
+
+  pub start-taken : Passes cal → number (rules cal) (start day close) empty ≡ 0 → Taken cal day close
+  unfolding number rules listingCause firstAt
+  start-taken p z = none-late p (none-of _ _ z .1)
+
+  -- ---- a session's own causes
+  module _ (b : Body) where
+    pub no-session : (day ≡ nextSession cal (b .at .day) → ⊥) → number (rules cal) (sessionCall day close) (running b) ≡ 19
+    unfolding number rules
+    no-session h = caused (not (eqb day (nextSession cal (b .at .day)))) 18 _ (ap not (ne-eqb day (nextSession cal (b .at .day)) h))
+
+    pub session-goes : day ≡ nextSession cal (b .at .day) → number (rules cal) (sessionCall day close) (running b) ≡ listingCause cal day close
+    unfolding number rules listingCause firstAt
+    session-goes h = passed (not (eqb day (nextSession cal (b .at .day)))) 19 _ (ap not (eq-eqb day (nextSession cal (b .at .day)) h))
+
+    pub session-taken : Passes cal → number (rules cal) (sessionCall day close) (running b) ≡ 0 → Taken cal day close × (day ≡ nextSession cal (b .at .day))
+    unfolding number rules listingCause firstAt
+    session-taken p z =
+        let c = none-of _ _ z in
+        (none-late p (c .1), eqb-true day (nextSession cal (b .at .day)) (not-false _ (not-cause (not (eqb day (nextSession cal (b .at .day)))) 18 (c .0))))

@@ -1,0 +1,82 @@
+-- `listing::list_start` meets its contract.
+-- Assumes nothing.
+use mathlib.Core.Path.{_≡_}
+use native.Mathlib.Omega.{arith}
+use borrow.Author.Needs.{needs}
+use Rattle.calendar.specs.Live.{firstLive, liveMonths}
+use Rattle.register.specs.Bytes.{readRows}
+use Rattle.ladders.specs.Writing.{rowsIn}
+use Rattle.ladders.specs.Spans.{closeSpans}
+use Rattle.listing.proofs.Starts.{close-low, close-high, day-in, none, start-ready, start-done}
+use Rattle.listing.proofs.list_start.Statement.{statement}
+use Rattle.listing.proofs.list_start.Tie as tie
+
+first-live-requires : tie.Need-first-live-requires
+first-live-requires c κs =
+    let s = c .before .before in
+    (day-in (s .args .calendar .now) (s .args .day) (s .args .close) (s .pre .1), s .pre .1 .passes)
+
+live-months-requires : tie.Need-live-months-requires
+live-months-requires c κs =
+    let s = c .before .before .before in
+    omega (arith, c .first-live .ensures, s .pre .1 .live)
+
+-- the months and spans that the code has taken up
+months-are : (c : tie.After-live-months) → c .live-months .result ≡ liveMonths (firstLive (c .before .before .before .before .args .calendar .now) (c .before .before .before .before .args .day))
+months-are c = rw (c .before .first-live .ensures) at (c .live-months .ensures)
+
+spans-are : (c : tie.After-close-spans)
+    → let a = c .before .before .before .before .before .args in
+    c .close-spans .result ≡ closeSpans (liveMonths (firstLive (a .calendar .now) (a .day))) none (a .close)
+spans-are c = rw (months-are (c .before)) at (c .close-spans .ensures)
+
+close-spans-requires : tie.Need-close-spans-requires
+unfolding liveMonths
+close-spans-requires c κs =
+    let s = c .before .before .before .before in
+    let l = s .pre .1 .live in
+    rw (months-are c)
+    (omega arith, close-low (s .args .calendar .now) (s .args .day) (s .args .close) (s .pre .1), close-high (s .args .calendar .now) (s .args .day) (s .args .close) (s .pre .1))
+
+sub-list : tie.Need-sub-list
+sub-list c = search needs
+
+part-list-start : tie.Need-part-list-start
+part-list-start c = search needs
+
+part-list-end : tie.Need-part-list-end
+part-list-end c = search needs
+
+list-requires : tie.Need-list-requires
+unfolding liveMonths
+list-requires c κs =
+    let k = c .before .before .before in
+    let s = k .before .before .before .before .before in
+    rw (spans-are k, months-are (k .before)) (s .pre .0, start-ready (s .args .calendar .now) (s .args .day) (s .args .close) (s .pre .1))
+
+same-length : tie.Need-same-length
+same-length c = search needs
+
+returns : tie.Need-returns
+unfolding rowsIn readRows
+returns c =
+    let l = c .before .before in
+    let k = l .before .before .before .before in
+    let s = k .before .before .before .before .before in
+    start-done (s .args .calendar .now) (s .args .day) (s .args .close) (s .pre .1) (l .list .result) (l .list .last .0)
+    (rw (spans-are k, months-are (k .before)) at (l .list .ensures .0))
+    (rw (spans-are k, months-are (k .before)) at (l .list .ensures .1))
+
+pub list-start-spec : {M : Type 1} → statement M
+list-start-spec =
+    tie.close
+    (tie.spec
+    first-live-requires
+    live-months-requires
+    close-spans-requires
+    sub-list
+    part-list-start
+    part-list-end
+    list-requires
+    same-length
+    returns)

@@ -1,0 +1,73 @@
+-- What the leaves of start and session ask and answer. Contracts of leaves cite this file.
+-- Assumes nothing.
+use mathlib.Core.Path.{_≡_}
+use mathlib.Core.Bool.{true, cond, not}
+use mathlib.Core.List.{List, [], _∷_}
+use Prim.Native.Nat.{ℕ, suc, _-_, _≤_}
+use lib.Dec.{eqb, ltb}
+use lib.ListN.{length, getD, replicate}
+use Rattle.base.specs.Causes.{cause, firstOf}
+use Rattle.calendar.specs.Calendar.{Passes, calendarCause, firstLacking}
+use Rattle.calendar.specs.Live.{firstLive}
+use Rattle.grid.specs.Grid.{closeTaken}
+use Rattle.grid.specs.Numbers.{numberOf}
+use Rattle.rules.specs.Rules.{Rules, lastFirstMonth}
+use Rattle.rules.specs.Rulebook.{rules}
+use Rattle.register.specs.Rows.{Row}
+use Rattle.register.specs.Register.{Body, Reg, running}
+use Rattle.register.specs.Bytes.{registerLength, two, bodyOf, allZero}
+use Rattle.listing.specs.Listing.{sessionBody}
+use Rattle.listing.specs.Calls.{rowsHeld, added, removed}
+use Rattle.listing.specs.declared.Listed.{Listed}
+use Rattle.listing.specs.declared.Opening.{Opening}
+
+-- ---- how every call opens: of the causes 11 to 15 and 17, those that show without a look at the rows
+unfoldable pub openingCause : List ℕ → List ℕ → ℕ
+openingCause calendar bs =
+    firstOf
+    (calendarCause calendar
+    ∷ cause (not (eqb (length bs) registerLength)) 14
+    ∷ cause (eqb (getD bs 0 0) 0) (cond (allZero bs) 17 15)
+    ∷ [])
+
+unfoldable pub openingOf : List ℕ → List ℕ → Opening
+openingOf calendar bs = record {
+  number = openingCause calendar bs;
+  month = cond (eqb (openingCause calendar bs) 13) (firstLacking calendar) 0;
+}
+
+-- the answer of a call that is refused
+abbrev pub refusal : ℕ → ℕ → Listed
+refusal number month = record { number = number; added = month; removed = 0; rows = 0 }
+
+-- causes 20 and 21, for a start or a session on a day
+unfoldable pub listingCause : List ℕ → ℕ → ℕ → ℕ
+listingCause calendar day close = firstOf (cause (ltb lastFirstMonth (firstLive calendar day)) 20 ∷ cause (not (closeTaken close)) 21 ∷ [])
+
+-- ---- a start or a session that is not refused
+
+-- what it answers, from the register before and after
+abbrev pub answer : Rules → Reg → Reg → Listed
+answer R old new = record { number = 0; added = added new; removed = removed R old new; rows = length (rowsHeld new) }
+
+-- a register in which nothing waits
+abbrev pub quiet : ℕ → List Row → Reg
+quiet day rows = running (record { at = record { day = day }; waiting = []; rows = rows })
+
+-- its head: status, none waiting, day, row count, two zeros, and no announcement
+unfoldable pub headBytes : ℕ → ℕ → List ℕ
+headBytes day count = 1 ∷ 0 ∷ two day (two count (0 ∷ 0 ∷ replicate 128 0))
+
+-- a day and a close that are taken
+pub record Taken (calendar : List ℕ) (day close : ℕ) : Type 0 where
+  pub passes : Passes calendar
+  pub live : firstLive calendar day ≤ lastFirstMonth
+  pub close-taken : closeTaken close ≡ true
+
+-- the body that a session leaves
+abbrev pub sessionOf : List ℕ → List ℕ → ℕ → ℕ → Body
+sessionOf calendar bs day close = sessionBody (rules calendar) (bodyOf bs) (record { day = day }) close
+
+-- how many rows the first live month of the session before had, if it is no longer live
+unfoldable pub droppedRows : ℕ → ℕ → List ℕ → ℕ
+droppedRows before first span = cond (eqb before first) 0 (suc (numberOf (getD span 1 0)) - numberOf (getD span 0 0))

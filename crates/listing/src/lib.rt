@@ -1,0 +1,338 @@
+// Start, session and announce on the register's bytes.
+use dates::DAYS;
+use register::LAST_FIRST_MONTH;
+use register::PLACES;
+use register::REGISTER_LENGTH;
+use register::ROWS;
+ghost use mathlib.Core.Path.{_≡_};
+ghost use mathlib.Core.Bool.{true};
+ghost use mathlib.Core.List.{_++_};
+ghost use Prim.Native.Nat.{_+_, _-_, _*_, _≤_, _<_};
+ghost use lib.ListN.{length, getD, take, drop, replicate};
+ghost use Rattle.dates.specs.Months.{dayCount};
+ghost use Rattle.calendar.specs.Calendar.{Passes, nextSession};
+ghost use Rattle.grid.specs.Numbers.{numberOf};
+ghost use Rattle.rules.specs.Rulebook.{rules};
+ghost use Rattle.rules.specs.Calls as Call;
+ghost use Rattle.register.specs.Register.{empty, running};
+ghost use Rattle.register.specs.Bytes.{registerLength, at16, bytesOf, bodyOf};
+ghost use Rattle.register.specs.Spans.{runsWell, standingSpans};
+ghost use Rattle.ladders.specs.Writing.{rowsIn, laddersFrom, planAt, Ready};
+ghost use Rattle.listing.specs.Listing.{number, startBody};
+ghost use Rattle.listing.specs.Calls.{afterAt, listedAt};
+ghost use Rattle.listing.specs.Writing.{openingOf, refusal, listingCause, answer, quiet, headBytes, Taken, sessionOf, droppedRows};
+
+// What a start or a session answers: its number, and where that is 0 the rows added, the rows removed and the row count;
+// beside 13 the month in `added`.
+#[repr(C)]
+pub struct Listed {
+    pub number: u16,
+    pub added: u16,
+    pub removed: u16,
+    pub rows: u16,
+}
+
+// What an announcement answers: its number, and where that is 0 how many wait; beside 13 the month in `waiting`.
+#[repr(C)]
+pub struct Announced {
+    pub number: u16,
+    pub waiting: u16,
+}
+
+// How a call opens: the number of a cause that shows without a look at the rows, or 0, and beside 13 the month.
+pub struct Opening {
+    pub number: u16,
+    pub month: u16,
+}
+
+// Causes 11 to 14, 17, and 15 where the status is 0 and another byte is not.
+fn open_register(calendar: &[u8], register: &[u8]) -> Opening
+    ensures { λ r. ⌜ r ≡ openingOf (now (calendar .entry)) (now (register .entry)) ⌝ }
+{
+    let checked = calendar::check(calendar);
+    if checked.number != 0 {
+        return Opening {
+            number: checked.number,
+            month: checked.month,
+        };
+    }
+    if register.len() != REGISTER_LENGTH {
+        return Opening {
+            number: 14,
+            month: 0,
+        };
+    }
+    if register[0] != 0 {
+        return Opening {
+            number: 0,
+            month: 0,
+        };
+    }
+    if register::is_zero(register) {
+        Opening {
+            number: 17,
+            month: 0,
+        }
+    } else {
+        Opening {
+            number: 15,
+            month: 0,
+        }
+    }
+}
+
+fn refused(number: u16, month: u16) -> Listed
+    ensures { λ r. ⌜ r ≡ refusal number month ⌝ }
+{
+    Listed {
+        number: number,
+        added: month,
+        removed: 0,
+        rows: 0,
+    }
+}
+
+// Causes 20 and 21. After the calendar's last day no month is live.
+fn listing_cause(calendar: &[u8], day: u32, close: u32) -> u16
+    requires { ⌜ Passes (now calendar) ⌝ }
+    ensures { λ r. ⌜ r ≡ listingCause (now (calendar .entry)) day close ⌝ }
+{
+    if DAYS as u32 <= day {
+        return 20;
+    }
+    if LAST_FIRST_MONTH < calendar::first_live(calendar, day as u16) {
+        return 20;
+    }
+    if grid::close_taken(close) { 0 } else { 21 }
+}
+
+// A start's own causes, where the register is empty.
+fn start_cause(calendar: &[u8], day: u32, close: u32) -> u16
+    requires { ⌜ Passes (now calendar) ⌝ }
+    ensures { λ r. ⌜ r ≡ number (rules (now (calendar .entry))) (Call.start day close) empty ⌝ }
+{
+    if DAYS as u32 <= day {
+        return 18;
+    }
+    if !calendar::has_session(calendar, day as u16) {
+        return 18;
+    }
+    listing_cause(calendar, day, close)
+}
+
+// A session's own causes, where the register runs.
+fn session_cause(calendar: &[u8], register: &[u8], day: u32, close: u32) -> u16
+    requires { ⌜ Passes (now calendar) × (length (now register) ≡ registerLength) × (at16 (now register) 2 < dayCount) ⌝ }
+    ensures { λ r. ⌜ r ≡ number (rules (now (calendar .entry))) (Call.session day close) (running (bodyOf (now (register .entry)))) ⌝ }
+{
+    let before = register::word(register, 2);
+    let next = calendar::next_session(calendar, before);
+    if day != next as u32 {
+        return 19;
+    }
+    listing_cause(calendar, day, close)
+}
+
+// Writes status, day and row count, and clears the announcements.
+fn write_head(register: &mut [u8], day: u16, count: u16)
+    requires { ⌜ length (now register) ≡ registerLength ⌝ }
+    ensures { λ _. ⌜ now (register .exit) ≡ headBytes day count ++ drop 136 (now (register .entry)) ⌝ }
+{
+    ladders::clear(&mut register[PLACES..ROWS]);
+    register[0] = 1;
+    register[1] = 0;
+    register[2] = (day % 256) as u8;
+    register[3] = (day / 256) as u8;
+    register[4] = (count % 256) as u8;
+    register[5] = (count / 256) as u8;
+    register[6] = 0;
+    register[7] = 0;
+}
+
+// Lists all six months from their spans and the old rows that stay. Returns the row count.
+fn list(
+    register: &mut [u8],
+    old: &[u8],
+    day: u16,
+    origin: u8,
+    months: [u16; 6],
+    held: [[u16; 2]; 6],
+    wide: [[u16; 2]; 6],
+    spans: [[u16; 2]; 6],
+) -> u16
+    requires { ⌜ length (now register) ≡ registerLength ⌝ }
+    requires { ⌜ Ready (getD months 0 0) (planAt day origin months held wide spans) ⌝ }
+    ensures { λ r. ⌜ r ≡ length (laddersFrom (planAt day origin months held wide spans) 0 6 (rowsIn (now (old .entry)))) ⌝ }
+    ensures { λ _. ⌜ now (register .exit) ≡ bytesOf (quiet day (laddersFrom (planAt day origin months held wide spans) 0 6 (rowsIn (now (old .entry))))) ⌝ }
+{
+    let end = ladders::write_ladders(register, old, day, origin, months, held, wide, spans);
+    let count = ((end - ROWS) / 8) as u16;
+    write_head(register, day, count);
+    count
+}
+
+// A start that is not refused.
+fn list_start(calendar: &[u8], register: &mut [u8], day: u16, close: u32) -> Listed
+    requires { ⌜ length (now register) ≡ registerLength ⌝ }
+    requires { ⌜ Taken (now calendar) day close ⌝ }
+    ensures { λ r. ⌜ r ≡ answer (rules (now (calendar .entry))) empty (running (startBody (rules (now (calendar .entry))) (record { day = day }) close)) ⌝ }
+    ensures { λ _. ⌜ now (register .exit) ≡ bytesOf (running (startBody (rules (now (calendar .entry))) (record { day = day }) close)) ⌝ }
+{
+    let first = calendar::first_live(calendar, day);
+    let months = calendar::live_months(first);
+    let held = [[0u16; 2]; 6];
+    let spans = ladders::spans::close_spans(months, held, close);
+    let none = [0u8; 1];
+    let count = list(register, &none[0..0], day, 5, months, held, spans, spans);
+    Listed {
+        number: 0,
+        added: count,
+        removed: 0,
+        rows: count,
+    }
+}
+
+// The register's bytes as a local array.
+fn copied(register: &[u8]) -> [u8; 11264]
+    requires { ⌜ length (now register) ≡ registerLength ⌝ }
+    ensures { λ r. ⌜ r ≡ now (register .entry) ⌝ }
+{
+    let mut copy = [0u8; 11264];
+    let mut i: usize = 0;
+    while i < REGISTER_LENGTH {
+        copy[i] = register[i];
+        i += 1;
+    }
+    copy
+}
+
+// How many rows the first live month of the session before had, if it is no longer live. It was in tier N, whose prices have all numbers.
+fn dropped_rows(before: u16, first: u16, span: [u16; 2]) -> u16
+    requires { ⌜ numberOf (getD span 0 0) ≤ numberOf (getD span 1 0) ⌝ }
+    ensures { λ r. ⌜ r ≡ droppedRows before first span ⌝ }
+{
+    if before == first {
+        0
+    } else {
+        grid::number_of(span[1] as u32) + 1 - grid::number_of(span[0] as u32)
+    }
+}
+
+// Lists the months of a session anew. The old rows stand in a copy; the first `dropped` of them go. Returns the row count.
+fn relist(
+    register: &mut [u8],
+    rows: u16,
+    dropped: u16,
+    day: u16,
+    months: [u16; 6],
+    held: [[u16; 2]; 6],
+    wide: [[u16; 2]; 6],
+    spans: [[u16; 2]; 6],
+) -> u16
+    requires { ⌜ (length (now register) ≡ registerLength) × (dropped ≤ rows) × (136 + 8 * rows ≤ registerLength) ⌝ }
+    requires { ⌜ Ready (getD months 0 0) (planAt day 1 months held wide spans) ⌝ }
+    ensures { λ r. ⌜ r ≡ length (laddersFrom (planAt day 1 months held wide spans) 0 6 (rowsIn (take (8 * (rows - dropped)) (drop (136 + 8 * dropped) (now (register .entry)))))) ⌝ }
+    ensures { λ _. ⌜ now (register .exit) ≡ bytesOf (quiet day (laddersFrom (planAt day 1 months held wide spans) 0 6 (rowsIn (take (8 * (rows - dropped)) (drop (136 + 8 * dropped) (now (register .entry))))))) ⌝ }
+{
+    let copy = copied(register);
+    let from = ROWS + 8 * (dropped as usize);
+    let end = ROWS + 8 * (rows as usize);
+    list(
+        register,
+        &copy[from..end],
+        day,
+        1,
+        months,
+        held,
+        wide,
+        spans,
+    )
+}
+
+// A session that is not refused. Where no month is new and no span wider, the rows stay as they are.
+fn list_session(
+    calendar: &[u8],
+    register: &mut [u8],
+    day: u16,
+    close: u32,
+    spans: [[u16; 2]; 6],
+) -> Listed
+    requires { ⌜ (length (now register) ≡ registerLength) × (runsWell (now calendar) (now register) ≡ true) × (spans ≡ standingSpans (now calendar) (now register)) ⌝ }
+    requires { ⌜ Taken (now calendar) day close × (day ≡ nextSession (now calendar) (at16 (now register) 2)) ⌝ }
+    ensures { λ r. ⌜ r ≡ answer (rules (now (calendar .entry))) (running (bodyOf (now (register .entry)))) (running (sessionOf (now (calendar .entry)) (now (register .entry)) day close)) ⌝ }
+    ensures { λ _. ⌜ now (register .exit) ≡ bytesOf (running (sessionOf (now (calendar .entry)) (now (register .entry)) day close)) ⌝ }
+{
+    let rows = register::word(register, 4);
+    let before = calendar::first_live(calendar, register::word(register, 2));
+    let first = calendar::first_live(calendar, day);
+    let months = calendar::live_months(first);
+    let held = ladders::spans::held_spans(calendar::live_months(before), spans, months);
+    let wide = ladders::spans::close_spans(months, held, close);
+    let waiting = register[1] as usize;
+    let new = ladders::spans::new_spans(register, waiting, months, held, wide);
+    if before == first {
+        if ladders::spans::same_spans(held, new) {
+            write_head(register, day, rows);
+            return Listed {
+                number: 0,
+                added: 0,
+                removed: 0,
+                rows: rows,
+            };
+        }
+    }
+    let dropped = dropped_rows(before, first, spans[0]);
+    let count = relist(register, rows, dropped, day, months, held, wide, new);
+    Listed {
+        number: 0,
+        added: count + dropped - rows,
+        removed: dropped,
+        rows: count,
+    }
+}
+
+// A start. An entry point: it takes any bytes and any numbers.
+pub fn start(calendar: &[u8], register: &mut [u8], day: u32, close: u32) -> Listed
+    ensures { λ r. ⌜ r ≡ listedAt (now (calendar .entry)) (Call.start day close) (now (register .entry)) ⌝ }
+    ensures { λ _. ⌜ now (register .exit) ≡ afterAt (rules (now (calendar .entry))) (Call.start day close) (now (register .entry)) ⌝ }
+{
+    let opening = open_register(calendar, register);
+    if opening.number == 17 {
+        let number = start_cause(calendar, day, close);
+        if number != 0 {
+            return refused(number, 0);
+        }
+        return list_start(calendar, register, day as u16, close);
+    }
+    if opening.number != 0 {
+        return refused(opening.number, opening.month);
+    }
+    let spans = register::standing(calendar, register);
+    let span = spans[0];
+    if span[0] == 0 {
+        refused(15, 0)
+    } else {
+        refused(16, 0)
+    }
+}
+
+// A session. An entry point: it takes any bytes and any numbers.
+pub fn session(calendar: &[u8], register: &mut [u8], day: u32, close: u32) -> Listed
+    ensures { λ r. ⌜ r ≡ listedAt (now (calendar .entry)) (Call.session day close) (now (register .entry)) ⌝ }
+    ensures { λ _. ⌜ now (register .exit) ≡ afterAt (rules (now (calendar .entry))) (Call.session day close) (now (register .entry)) ⌝ }
+{
+    let opening = open_register(calendar, register);
+    if opening.number != 0 {
+        return refused(opening.number, opening.month);
+    }
+    let spans = register::standing(calendar, register);
+    let span = spans[0];
+    if span[0] == 0 {
+        return refused(15, 0);
+    }
+    let number = session_cause(calendar, register, day, close);
+    if number != 0 {
+        return refused(number, 0);
+    }
+    list_session(calendar, register, day as u16, close, spans)
+}

@@ -1,0 +1,226 @@
+-- The layout, as a scan of the bytes finds it, is that the bytes are what is written of what is read.
+-- Assumes nothing.
+use mathlib.Core.Path.{_≡_, refl, sym, ap, _∙_, subst}
+use mathlib.Core.Bool.{true, false, _&&_, false≢true}
+use mathlib.Core.List.{List, [], _∷_, _++_, append-assoc}
+use Prim.Native.Nat.{ℕ, zero, suc, _+_, _-_, _*_, _/_, _%_, _≤_, _<_, max}
+use native.Mathlib.Nat.{add-zero}
+use native.Mathlib.Omega.{arith}
+use lib.Dec.{eqb}
+use lib.ListN.{length, getD, take, drop, replicate, length-append, length-take, length-drop, length-replicate, take-append-drop}
+use lib.Seq.{take-all, take-at, drop-at, drop-drop, drop-cons, getD-drop}
+use borrow.Author.Tests.{eqb-true, eqb-false, ne-eqb}
+use Rattle.base.proofs.Tests.{byBool, and-l, and-r}
+use Rattle.register.specs.Rows.{Row}
+use Rattle.register.specs.Register.{Body}
+use Rattle.register.specs.Bytes.{two, placesBytes, rowsBytes, padded, bodyBytes, at16, readPlaces, readRows, bodyOf, allZero, sameBytes}
+use Rattle.register.specs.Scan.{Tells, Keeps, placesAt}
+use Rattle.register.proofs.ByteLaws.{places-length, rows-length, padded-length, zeros-zero}
+use Rattle.register.proofs.Steps.{at16-drop, places-none, places-some}
+
+-- ---- zeros: the greatest of the bytes passed tells of them all
+pub zero-step : (g b : ℕ) (bs : List ℕ) → (eqb g 0 && allZero (b ∷ bs)) ≡ (eqb (max b g) 0 && allZero bs)
+unfolding allZero
+zero-step g b bs =
+    byBool (eqb g 0)
+    (λ e. let z = eqb-true g 0 e in let m : max b g ≡ b = omega arith in rw (e, m))
+    (λ e. let n = eqb-false g 0 e in rw (e, ne-eqb (max b g) 0 (λ q. n (omega arith))))
+
+pub tells-not : {P : Type 0} → (P → ⊥) → Tells false P
+tells-not never = record { if-true = λ e. absurd (false≢true e); if-holds = λ p. absurd (never p) }
+
+-- all bytes from one on
+pub rest-all : (bs : List ℕ) (at : ℕ) → take (length bs - at) (drop at bs) ≡ drop at bs
+rest-all bs at = take-all (length bs - at) (drop at bs) (omega (arith, length-drop at bs))
+
+pub zeros-are : (xs : List ℕ) (n : ℕ) → length xs ≡ n → allZero xs ≡ true → xs ≡ replicate n 0
+unfolding allZero
+zeros-are [] n l h = rw (← l)
+zeros-are (x ∷ xs) n l h =
+    rw (← l, eqb-true x 0 (and-l _ _ h)) (ap (λ (ys : List ℕ). 0 ∷ ys) (zeros-are xs (length xs) refl (and-r (eqb x 0) _ h)))
+
+pub same-eq : (xs ys : List ℕ) → sameBytes xs ys ≡ true → xs ≡ ys
+unfolding sameBytes
+same-eq [] [] h = refl
+same-eq [] (y ∷ ys) h = absurd (false≢true h)
+same-eq (x ∷ xs) [] h = absurd (false≢true h)
+same-eq (x ∷ xs) (y ∷ ys) h = rw (eqb-true x y (and-l _ _ h), same-eq xs ys (and-r (eqb x y) _ h))
+
+-- the last byte of each of n rows is zero
+abbrev pub EndsZero : ℕ → List ℕ → Type 0
+EndsZero zero xs = Unit {0}
+EndsZero (suc n) xs = (getD xs 7 0 ≡ 0) × EndsZero n (drop 8 xs)
+
+-- ---- how much is read
+pub places-count : (w : ℕ) (xs : List ℕ) → length (readPlaces w xs) ≡ w
+unfolding readPlaces
+places-count zero xs = refl
+places-count (suc w) xs = ap suc (places-count w (drop 4 xs))
+
+pub rows-count : (n : ℕ) (xs : List ℕ) → length (readRows n xs) ≡ n
+unfolding readRows
+rows-count zero xs = refl
+rows-count (suc n) xs = ap suc (rows-count n (drop 8 xs))
+
+two-append : (n : ℕ) (xs ys : List ℕ) → two n xs ++ ys ≡ two n (xs ++ ys)
+unfolding two
+two-append n xs ys = refl
+
+-- ---- from the scan to the layout: what is read, written before the bytes behind it, is the bytes that it was read of
+module _ (bs : List ℕ) (bytes : (i : ℕ) → getD bs i 0 < 256) where
+  one-at : (at next v : ℕ) → next ≡ suc at → at < length bs → getD bs at 0 ≡ v → v ∷ drop next bs ≡ drop at bs
+  one-at at next v e h g = rw (e, ← g) (sym (drop-cons bs at 0 h))
+
+  two-at : (at next : ℕ) → next ≡ suc (suc at) → next ≤ length bs → two (at16 bs at) (drop next bs) ≡ drop at bs
+  unfolding two at16
+  two-at at next e h =
+      let low : (getD bs at 0 + 256 * getD bs (suc at) 0) % 256 ≡ getD bs at 0 = omega (arith, bytes at) in
+      let high : (getD bs at 0 + 256 * getD bs (suc at) 0) / 256 ≡ getD bs (suc at) 0 = omega (arith, bytes at) in
+      rw (low, high, e, drop-cons bs at 0 (omega arith), drop-cons bs (suc at) 0 (omega arith))
+
+  places-from : (w at : ℕ) → at + 4 * w ≤ length bs → placesBytes (placesAt bs at w) ++ drop (at + 4 * w) bs ≡ drop at bs
+  unfolding placesBytes
+  places-from zero at h = let e : at + 4 * 0 ≡ at = omega arith in rw (e, places-none bs at 0 (omega arith))
+  places-from (suc w) at h =
+      let e : at + 4 * suc w ≡ at + 4 + 4 * w = omega arith in
+      let n : suc w - 1 ≡ w = omega arith in
+      rw (
+        places-some bs at (suc w) (omega arith),
+        n,
+        two-append,
+        two-append,
+        e,
+        places-from w (at + 4) (omega arith),
+        two-at (at + 2) (at + 4) (omega arith) (omega arith),
+      )
+      (two-at at (at + 2) (omega arith) (omega arith))
+
+  rows-from : (n at : ℕ) → at + 8 * n ≤ length bs → EndsZero n (drop at bs) → rowsBytes (readRows n (drop at bs)) ++ drop (at + 8 * n) bs ≡ drop at bs
+  unfolding rowsBytes readRows
+  rows-from zero at h z = let e : at + 8 * 0 ≡ at = omega arith in rw e
+  rows-from (suc n) at h z =
+      let e : at + 8 * suc n ≡ at + 8 + 8 * n = omega arith in
+      let end : getD bs (at + 7) 0 ≡ 0 = sym (getD-drop at bs 7 0) ∙ z .0 in
+      let d₈ : drop 8 (drop at bs) ≡ drop (at + 8) bs = drop-drop 8 at bs in
+      let i = rows-from n (at + 8) (omega arith) (rw d₈ at (z .1)) in
+      rw (
+        at16-drop bs at 0,
+        at16-drop bs at 2,
+        at16-drop bs at 4,
+        getD-drop at bs 6 0,
+        add-zero at,
+        d₈,
+        two-append,
+        two-append,
+        two-append,
+        e,
+        i,
+        one-at (at + 7) (at + 8) 0 (omega arith) (omega arith) end,
+        one-at (at + 6) (at + 7) (getD bs (at + 6) 0) (omega arith) (omega arith) refl,
+        two-at (at + 4) (at + 6) (omega arith) (omega arith),
+        two-at (at + 2) (at + 4) (omega arith) (omega arith),
+      )
+      (two-at at (at + 2) (omega arith) (omega arith))
+
+  module _ (l : length bs ≡ 11264) (k : Keeps bs) (ends : EndsZero (at16 bs 4) (drop 136 bs)) where
+    waiting-part : (m : ℕ) → m ≡ 128 - 4 * getD bs 1 0 → replicate m 0 ++ drop 136 bs ≡ drop (8 + 4 * getD bs 1 0) bs
+    waiting-part m e =
+        let h = k .waiting in
+        let at : ℕ = 8 + 4 * getD bs 1 0 in
+        let n : length (take (136 - at) (drop at bs)) ≡ m = omega (arith, length-take (136 - at) (drop at bs), length-drop at bs) in
+        let d : at + (136 - at) ≡ 136 = omega arith in
+        let rest : drop 136 bs ≡ drop (136 - at) (drop at bs) = sym (drop-drop (136 - at) at bs ∙ ap (λ (i : ℕ). drop i bs) d) in
+        rw (← zeros-are (take (136 - at) (drop at bs)) m n (k .places), rest) (take-append-drop (136 - at) (drop at bs))
+
+    behind-part : (m : ℕ) → m ≡ 11128 - 8 * at16 bs 4 → replicate m 0 ≡ drop (136 + 8 * at16 bs 4) bs
+    behind-part m e =
+        let h = k .count in
+        sym (zeros-are (drop (136 + 8 * at16 bs 4) bs) m (omega (arith, length-drop (136 + 8 * at16 bs 4) bs)) (k .behind))
+
+    pub layout-is : bodyBytes (bodyOf bs) ≡ bs
+    unfolding bodyBytes bodyOf padded
+    layout-is =
+        let w : ℕ = getD bs 1 0 in
+        let n : ℕ = at16 bs 4 in
+        let h = k .waiting in
+        let g = k .count in
+        let p : length (placesBytes (placesAt bs 8 w)) ≡ 4 * w = places-length (placesAt bs 8 w) ∙ ap (λ (i : ℕ). 4 * i) (places-count w (drop 8 bs)) in
+        let q : length (rowsBytes (readRows n (drop 136 bs))) ≡ 8 * n = rows-length (readRows n (drop 136 bs)) ∙ ap (λ (i : ℕ). 8 * i) (rows-count n (drop 136 bs)) in
+        rw (
+          places-count w (drop 8 bs),
+          rows-count n (drop 136 bs),
+          behind-part (11128 - length (rowsBytes (readRows n (drop 136 bs)))) (rw q),
+          rows-from n 136 (omega arith) ends,
+          append-assoc (placesBytes (placesAt bs 8 w)),
+          waiting-part (128 - length (placesBytes (placesAt bs 8 w))) (rw p),
+          places-from w 8 (omega arith),
+          one-at 7 8 0 (omega arith) (omega arith) (k .seven),
+          one-at 6 7 0 (omega arith) (omega arith) (k .six),
+          two-at 4 6 (omega arith) (omega arith),
+          two-at 2 4 (omega arith) (omega arith),
+          one-at 1 2 w (omega arith) (omega arith) refl,
+        )
+        (one-at 0 1 1 (omega arith) (omega arith) (k .status))
+
+-- ---- and from the layout to the scan
+ends-written : (rs : List Row) (rest : List ℕ) → EndsZero (length rs) (rowsBytes rs ++ rest)
+unfolding rowsBytes two
+ends-written [] rest = tt
+ends-written (r ∷ rs) rest = (refl, ends-written rs rest)
+
+body-sizes : (b : Body) → length (bodyBytes b) ≡ 11264 → (length (b .waiting) ≤ 32) × (length (b .rows) ≤ 1391)
+unfolding bodyBytes two padded
+body-sizes b l = let e = simp (length-append, length-replicate, places-length, rows-length) at l in (omega arith, omega arith)
+
+module _ (b : Body) (l : length (bodyBytes b) ≡ 11264) where
+  count-is : at16 (bodyBytes b) 4 ≡ length (b .rows)
+  unfolding at16 bodyBytes two
+  count-is = omega arith
+
+  pub rows-part : drop 136 (bodyBytes b) ≡ rowsBytes (b .rows) ++ replicate (11128 - length (rowsBytes (b .rows))) 0
+  unfolding bodyBytes two padded
+  rows-part =
+      let h = body-sizes b l .0 in
+      let p = places-length (b .waiting) in
+      drop-at (padded 128 (placesBytes (b .waiting))) _ 128 (padded-length 128 (placesBytes (b .waiting)) (omega arith))
+
+  unused-zero : allZero (take (136 - (8 + 4 * length (b .waiting))) (drop (8 + 4 * length (b .waiting)) (bodyBytes b))) ≡ true
+  unfolding bodyBytes two padded
+  unused-zero =
+      let P : List ℕ = placesBytes (b .waiting) in
+      let p = places-length (b .waiting) in
+      let Z : List ℕ = replicate (128 - length P) 0 in
+      let n : length Z ≡ 136 - (8 + 4 * length (b .waiting)) = length-replicate {A = ℕ} (128 - length P) 0 ∙ omega arith in
+      rw (← drop-drop (4 * length (b .waiting)) 8 (bodyBytes b), append-assoc P, drop-at P _ (4 * length (b .waiting)) p, take-at Z _ (136 - (8 + 4 * length (b .waiting))) n)
+      (zeros-zero (128 - length P))
+
+  behind-zero : allZero (drop (136 + 8 * length (b .rows)) (bodyBytes b)) ≡ true
+  behind-zero =
+      let Q : List ℕ = rowsBytes (b .rows) in
+      rw (← drop-drop (8 * length (b .rows)) 136 (bodyBytes b), rows-part, drop-at Q (replicate (11128 - length Q) 0) (8 * length (b .rows)) (rows-length (b .rows)))
+      (zeros-zero (11128 - length Q))
+
+  header-is : (getD (bodyBytes b) 0 0 ≡ 1) × (getD (bodyBytes b) 1 0 ≡ length (b .waiting)) × (getD (bodyBytes b) 6 0 ≡ 0) × (getD (bodyBytes b) 7 0 ≡ 0)
+  unfolding bodyBytes two
+  header-is = (refl, refl, refl, refl)
+
+  body-keeps : Keeps (bodyBytes b) × EndsZero (at16 (bodyBytes b) 4) (drop 136 (bodyBytes b))
+  body-keeps =
+      let h = body-sizes b l in
+      let e = header-is in
+      let n = count-is in (
+        record {
+          status = e .0;
+          waiting = omega arith;
+          six = e .2;
+          seven = e .3;
+          count = omega arith;
+          places = rw (e .1) unused-zero;
+          behind = rw n behind-zero;
+        },
+        rw (n, rows-part) (ends-written (b .rows) _),
+      )
+
+pub kept : (bs : List ℕ) → length bs ≡ 11264 → bs ≡ bodyBytes (bodyOf bs) → Keeps bs × EndsZero (at16 bs 4) (drop 136 bs)
+kept bs l e =
+    subst (λ (xs : List ℕ). Keeps xs × EndsZero (at16 xs 4) (drop 136 xs)) (sym e) (body-keeps (bodyOf bs) (sym (ap length e) ∙ l))

@@ -1,0 +1,223 @@
+-- A register stands where the scan of its bytes says so, and its spans are those that the scan finds.
+-- Assumes nothing.
+use mathlib.Core.Path.{_≡_, refl, sym, ap, _∙_}
+use mathlib.Core.Bool.{true, false, not, _&&_}
+use mathlib.Core.List.{List, [], _∷_, _++_}
+use mathlib.Core.Logic.{⊎-elim}
+use Prim.Native.Nat.{ℕ, zero, suc, _+_, _-_, _*_, _≤_, _<_}
+use native.Mathlib.Nat.{add-zero}
+use native.Mathlib.Omega.{arith}
+use lib.Dec.{leb}
+use lib.ListN.{length, getD, drop, replicate}
+use lib.Seq.{drop-drop, getD-drop}
+use borrow.Author.Tests.{le-leb, leb-true, not-true}
+use Rattle.base.specs.Lists.{elem, select, within, least, greatest}
+use Rattle.base.proofs.Tests.{byBool, and-l, and-r, and-i}
+use Rattle.base.proofs.ListLaws.{elem-here, elem-there, within-r}
+use Rattle.calendar.specs.Calendar.{session}
+use Rattle.calendar.specs.Live.{firstLive, liveMonths, tierOf}
+use Rattle.grid.specs.Grid.{gridOf}
+use Rattle.grid.proofs.Prices.{price-line}
+use Rattle.rules.specs.Rules.{lastFirstMonth}
+use Rattle.rules.specs.Rulebook.{rules, firstAt, tierAt}
+use Rattle.register.specs.Rows.{newEntry, Row, row, rowsOf, pricesOf, entryOk}
+use Rattle.register.specs.Register.{mostWaiting, Body, running, spanLow, spanHigh, sameKeys, nonEmpty, entriesOk, listed, waitingOk, wellFormed}
+use Rattle.register.specs.Bytes.{at16, readRows, bodyOf, rowsBytes, bodyBytes, bytesOf, allZero, sameBytes, regOf, inLayout}
+use Rattle.register.specs.Opening.{emptyOrWell, stands}
+use Rattle.register.specs.Spans.{runsWell, spansOf, standingSpans}
+use Rattle.register.specs.Scan.{Keeps, rowAt, rowsAt, noSpans, ladderSpans}
+use Rattle.register.proofs.RowLaws.{rowsOf-same}
+use Rattle.register.proofs.ByteLaws.{same-self}
+use Rattle.register.proofs.Held.{ladderOf, Held, there, least-held, greatest-held, Facts, facts, live-apart, held}
+use Rattle.register.proofs.Steps.{at16-drop}
+use Rattle.register.proofs.Kept.{EndsZero, same-eq, layout-is, kept, places-count, rows-part}
+use Rattle.register.proofs.Found.{blank, Found, find-ladders, held-found, spans-held}
+
+-- ---- the rows as they are scanned are the rows, where the byte behind each origin is zero
+module _ (bs : List ℕ) where
+  read-some : (at n : ℕ) → readRows (suc n) (drop at bs)
+      ≡ row (at16 bs at) (at16 bs (at + 2)) (record { first = at16 bs (at + 4); origin = getD bs (at + 6) 0 }) ∷ readRows n (drop (at + 8) bs)
+  unfolding readRows
+  read-some at n = rw (at16-drop bs at 0, at16-drop bs at 2, at16-drop bs at 4, getD-drop at bs 6 0, drop-drop 8 at bs, add-zero at)
+
+  origin-is : (at : ℕ) → at16 bs (at + 6) ≡ getD bs (at + 6) 0 + 256 * getD (drop at bs) 7 0
+  unfolding at16
+  origin-is at = let e : at + 7 ≡ suc (at + 6) = omega arith in rw (getD-drop at bs 7 0, e)
+
+  rows-same : (n at : ℕ) → EndsZero n (drop at bs) → rowsAt bs at n ≡ readRows n (drop at bs)
+  unfolding rowsAt readRows
+  rows-same zero at z = refl
+  rows-same (suc n) at z =
+      let o : at16 bs (at + 6) ≡ getD bs (at + 6) 0 = omega (arith, origin-is at) in
+      rw (o, rows-same n (at + 8) (rw (drop-drop 8 at bs) at (z .1))) (sym (read-some at n))
+
+  ends-zero : (day n at : ℕ) → entriesOk day (rowsAt bs at n) ≡ true → EndsZero n (drop at bs)
+  unfolding rowsAt entriesOk entryOk
+  ends-zero day zero at k = tt
+  ends-zero day (suc n) at k =
+      let e = and-l (entryOk day (rowAt bs at .entry)) _ k in
+      let o = within-r 1 5 (at16 bs (at + 6)) (and-r (leb (at16 bs (at + 4)) day) _ e) in
+      let z : getD (drop at bs) 7 0 ≡ 0 = omega (arith, origin-is at) in
+      (z, rw (drop-drop 8 at bs) (ends-zero day n (at + 8) (and-r (entryOk day (rowAt bs at .entry)) _ k)))
+
+-- ---- a register that runs and is well formed
+pub record Running (cal bs : List ℕ) : Type 0 where
+  pub written : bs ≡ bodyBytes (bodyOf bs)
+  pub well : Facts (rules cal) (bodyOf bs)
+
+module _ (cal bs : List ℕ) where
+  reg-is : allZero bs ≡ false → regOf bs ≡ running (bodyOf bs)
+  unfolding regOf
+  reg-is z = rw z
+
+  runs-opened : allZero bs ≡ false → stands (rules cal) bs ≡ (sameBytes bs (bodyBytes (bodyOf bs)) && wellFormed (rules cal) (bodyOf bs))
+  unfolding stands inLayout emptyOrWell bytesOf
+  runs-opened z = rw (reg-is z)
+
+  pub runs : runsWell cal bs ≡ true → Running cal bs
+  unfolding runsWell
+  runs h =
+      let z : allZero bs ≡ false = not-true (allZero bs) (and-l (not (allZero bs)) _ h) in
+      let g = sym (runs-opened z) ∙ and-r (not (allZero bs)) _ h in
+      record {
+        written = same-eq bs (bodyBytes (bodyOf bs)) (and-l (sameBytes bs (bodyBytes (bodyOf bs))) _ g);
+        well = facts (rules cal) (bodyOf bs) (and-r (sameBytes bs (bodyBytes (bodyOf bs))) _ g);
+      }
+
+  body-some : (b : Body) → allZero (bodyBytes b) ≡ false
+  unfolding allZero bodyBytes
+  body-some b = refl
+
+  well-formed : Facts (rules cal) (bodyOf bs) → wellFormed (rules cal) (bodyOf bs) ≡ true
+  unfolding wellFormed rules
+  well-formed w = and-i (w .session-day) (and-i (w .live) (and-i (w .keys) (and-i (w .some-row) (and-i (w .entries) (and-i (w .short) (w .waits))))))
+
+  pub runs-i : Running cal bs → runsWell cal bs ≡ true
+  unfolding runsWell
+  runs-i r =
+      let z : allZero bs ≡ false = ap allZero (r .written) ∙ body-some (bodyOf bs) in
+      let s : sameBytes bs (bodyBytes (bodyOf bs)) ≡ true = ap (sameBytes bs) (sym (r .written)) ∙ same-self bs in
+      rw z (runs-opened z ∙ and-i s (well-formed (r .well)))
+
+-- ---- what the scan finds of it
+module _ (cal bs : List ℕ) (l : length bs ≡ 11264) (r : Running cal bs) where
+  pub run-keeps : Keeps bs
+  run-keeps = kept bs l (r .written) .0
+
+  pub run-session : session cal (at16 bs 2) ≡ true
+  unfolding rules bodyOf
+  run-session = r .well .session-day
+
+  pub run-first : firstLive cal (at16 bs 2) ≤ lastFirstMonth
+  unfolding rules firstAt bodyOf
+  run-first = leb-true (firstLive cal (at16 bs 2)) lastFirstMonth (r .well .live)
+
+  pub run-held : Held (firstLive cal (at16 bs 2)) (bodyOf bs .rows)
+  unfolding bodyOf
+  run-held = held cal (bodyOf bs) (r .well)
+
+  pub run-spans : let f = firstLive cal (at16 bs 2) in ladderSpans (at16 bs 2) f [] (liveMonths f) (rowsAt bs 136 (at16 bs 4)) ≡ spansOf (bodyOf bs) (liveMonths f)
+  unfolding bodyOf
+  run-spans =
+      let f : ℕ = firstLive cal (at16 bs 2) in
+      ap (ladderSpans (at16 bs 2) f [] (liveMonths f)) (rows-same bs (at16 bs 4) 136 (kept bs l (r .written) .1))
+      ∙ spans-held (at16 bs 2) f (bodyOf bs) run-held (r .well .entries)
+
+  -- behind the places stand the bytes of its rows, then zeros
+  pub rows-behind : drop 136 bs ≡ rowsBytes (bodyOf bs .rows) ++ replicate (11128 - length (rowsBytes (bodyOf bs .rows))) 0
+  rows-behind = ap (drop 136) (r .written) ∙ rows-part (bodyOf bs) (sym (ap length (r .written)) ∙ l)
+
+-- the first month's lowest price is not 0
+pub first-low : (f : ℕ) (b : Body) → Held f (b .rows) → getD (getD (spansOf b (liveMonths f)) 0 []) 0 0 ≡ 0 → ⊥
+unfolding spansOf liveMonths spanLow
+first-low f b h z =
+    let e : elem f (liveMonths f) ≡ true = elem-here f _ in
+    omega (arith, least-held f (b .rows) h f e, h .low-on f e .from, price-line (h .low f))
+
+all-some : (b : Body) (ms : List ℕ) → ((m : ℕ) → elem m ms ≡ true → elem (spanLow b m) (pricesOf m (b .rows)) ≡ true) → nonEmpty b ms ≡ true
+unfolding nonEmpty
+all-some b [] h = refl
+all-some b (m ∷ ms) h = and-i (h m (elem-here m ms)) (all-some b ms (λ n e. h n (elem-there n m ms e)))
+
+-- ---- and where a scan finds six spans, the first of which has a price
+pub record Scanned (cal bs : List ℕ) (spans : List (List ℕ)) : Type 0 where
+  pub keeps : Keeps bs
+  pub day-session : session cal (at16 bs 2) ≡ true
+  pub first-le : firstLive cal (at16 bs 2) ≤ lastFirstMonth
+  pub spans-is : spans ≡ ladderSpans (at16 bs 2) (firstLive cal (at16 bs 2)) [] (liveMonths (firstLive cal (at16 bs 2))) (rowsAt bs 136 (at16 bs 4))
+  pub some : getD (getD spans 0 []) 0 0 ≡ 0 → ⊥
+
+module _ (cal bs : List ℕ) (l : length bs ≡ 11264) (bytes : (i : ℕ) → getD bs i 0 < 256) (spans : List (List ℕ)) (r : Scanned cal bs spans) where
+  scan-found : Found (at16 bs 2) (firstLive cal (at16 bs 2)) (liveMonths (firstLive cal (at16 bs 2))) (rowsAt bs 136 (at16 bs 4))
+  scan-found =
+      let f : ℕ = firstLive cal (at16 bs 2) in
+      ⊎-elim (λ z. absurd (r .some (ap (λ (x : List (List ℕ)). getD (getD x 0 []) 0 0) (r .spans-is ∙ z)))) (λ w. w)
+      (find-ladders (at16 bs 2) f [] (liveMonths f) (rowsAt bs 136 (at16 bs 4)) (live-apart f))
+
+  ends : EndsZero (at16 bs 4) (drop 136 bs)
+  ends = ends-zero bs (at16 bs 2) (at16 bs 4) 136 (scan-found .entries)
+
+  rows-are : rowsAt bs 136 (at16 bs 4) ≡ bodyOf bs .rows
+  unfolding bodyOf
+  rows-are = rows-same bs (at16 bs 4) 136 ends
+
+  found : Found (at16 bs 2) (firstLive cal (at16 bs 2)) (liveMonths (firstLive cal (at16 bs 2))) (bodyOf bs .rows)
+  found = rw rows-are at scan-found
+
+  scan-held : Held (firstLive cal (at16 bs 2)) (bodyOf bs .rows)
+  scan-held = held-found (at16 bs 2) (firstLive cal (at16 bs 2)) (bodyOf bs .rows) found
+
+  pub spans-are : spans ≡ spansOf (bodyOf bs) (liveMonths (firstLive cal (at16 bs 2)))
+  spans-are = r .spans-is ∙ rw rows-are (spans-held (at16 bs 2) (firstLive cal (at16 bs 2)) (bodyOf bs) scan-held (found .entries))
+
+  keys-are : let b = bodyOf bs in let R = rules cal in
+      sameKeys (b .rows) (rowsOf (R .live (b .at)) (listed R (b .at) (spanLow b) (spanHigh b)) (λ m p. newEntry 0 0)) ≡ true
+  unfolding rules firstAt tierAt listed spanLow spanHigh bodyOf scan-held held-found
+  keys-are =
+      let f : ℕ = firstLive cal (at16 bs 2) in
+      let rs : List Row = bodyOf bs .rows in
+      let h = scan-held in
+      let same = rowsOf-same (liveMonths f) (λ m. select (within (least (pricesOf m rs)) (greatest (pricesOf m rs))) (gridOf (tierOf f m))) (ladderOf f (h .low) (h .high)) blank blank
+      (λ m q. rw (least-held f rs h m q, greatest-held f rs h m q)) (λ m p q g. refl) in
+      rw same (found .keys)
+
+  some-row : nonEmpty (bodyOf bs) (rules cal .live (bodyOf bs .at)) ≡ true
+  unfolding rules firstAt spanLow bodyOf
+  some-row =
+      let f : ℕ = firstLive cal (at16 bs 2) in
+      let rs : List Row = bodyOf bs .rows in
+      let h = scan-held in
+      all-some (bodyOf bs) (liveMonths f) (λ m q. rw (least-held f rs h m q) (there f rs h m (h .low m) q (h .low-on m q) (omega arith) (h .order m q)))
+
+  pub stands-if : waitingOk (rules cal) (bodyOf bs) [] (bodyOf bs .waiting) ≡ true → Running cal bs
+  unfolding rules firstAt bodyOf
+  stands-if w = record {
+    written = sym (layout-is bs bytes l (r .keeps) ends);
+    well = record {
+      session-day = r .day-session;
+      live = le-leb (firstLive cal (at16 bs 2)) lastFirstMonth (r .first-le);
+      keys = keys-are;
+      some-row = some-row;
+      entries = found .entries;
+      short = le-leb (length (bodyOf bs .waiting)) mostWaiting (omega (arith, places-count (getD bs 1 0) (drop 8 bs), r .keeps .waiting));
+      waits = w;
+    };
+  }
+
+-- ---- the answers
+module _ (cal bs : List ℕ) where
+  pub none-stand : (Running cal bs → ⊥) → noSpans ≡ standingSpans cal bs
+  unfolding standingSpans
+  none-stand never = byBool (runsWell cal bs) (λ h. absurd (never (runs cal bs h))) (λ h. rw h)
+
+  pub all-stand : Running cal bs → spansOf (bodyOf bs) (liveMonths (firstLive cal (at16 bs 2))) ≡ standingSpans cal bs
+  unfolding standingSpans
+  all-stand r = rw (runs-i cal bs r)
+
+  -- so the first month's lowest price tells whether it stands
+  pub standing-none : length bs ≡ 11264 → getD (getD (standingSpans cal bs) 0 []) 0 0 ≡ 0 → Running cal bs → ⊥
+  standing-none l z r = first-low (firstLive cal (at16 bs 2)) (bodyOf bs) (run-held cal bs l r) (rw (← all-stand r) at z)
+
+  pub standing-some : (getD (getD (standingSpans cal bs) 0 []) 0 0 ≡ 0 → ⊥) → Running cal bs
+  unfolding standingSpans
+  standing-some n = byBool (runsWell cal bs) (λ h. runs cal bs h) (λ h. absurd (n (rw h)))

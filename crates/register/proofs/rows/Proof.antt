@@ -1,0 +1,48 @@
+-- `register::rows` meets its contract: the part lies at the place that `rows_place` gives.
+-- Assumes nothing.
+use mathlib.Core.Path.{_≡_}
+use Prim.Native.Nat.{_+_, _-_}
+use native.Mathlib.Omega.{arith}
+use borrow.Author.Needs.{needs}
+use Rattle.register.proofs.rows.Statement.{statement}
+use Rattle.register.proofs.rows.Tie as tie
+
+rows-place-requires : tie.Need-rows-place-requires
+rows-place-requires c κs = search needs
+
+cast-at : tie.Need-cast-at
+cast-at c = search needs
+
+cast-end : tie.Need-cast-end
+cast-end c = search needs
+
+add-end : tie.Need-add-end
+add-end c = search needs
+
+sub-result : tie.Need-sub-result
+sub-result c = search needs
+
+part-result-start : tie.Need-part-result-start
+part-result-start c = search needs
+
+part-result-end : tie.Need-part-result-end
+part-result-end c = omega (arith, c .before .before .rows-place .ensures .inside)
+
+returns : tie.Need-returns
+returns c =
+    let p = c .before .before .before .rows-place .result in
+    let e : p .at + p .size - p .at ≡ p .size = omega arith in
+    rw e (c .before .before .before .rows-place .ensures .part-is)
+
+pub rows-spec : {M : Type 1} → statement M
+rows-spec =
+    tie.close
+    (tie.spec
+    rows-place-requires
+    cast-at
+    cast-end
+    add-end
+    sub-result
+    part-result-start
+    part-result-end
+    returns)

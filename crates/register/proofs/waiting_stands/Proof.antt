@@ -1,0 +1,137 @@
+-- `register::waiting_stands` meets its contract. The loop keeps an equation: the announcements left stand beside those passed.
+-- Assumes nothing.
+use mathlib.Core.Path.{_≡_, sym, _∙_}
+use mathlib.Core.List.{[], _++_}
+use Prim.Native.Nat.{_+_, _-_, _*_, _≤_}
+use native.Mathlib.Omega.{arith}
+use lib.ListN.{getD}
+use borrow.Author.Needs.{needs}
+use Rattle.calendar.specs.Calendar.{nextSession}
+use Rattle.rules.specs.Rulebook.{rules}
+use Rattle.register.specs.Register.{waitingOk}
+use Rattle.register.specs.Bytes.{at16, bodyOf}
+use Rattle.register.specs.Scan.{placesAt}
+use Rattle.register.proofs.Waiting.{live-top, causes-are, beside, waiting-start, waiting-end, waiting-stop, waiting-next}
+use Rattle.register.proofs.waiting_stands.Statement.{statement}
+use Rattle.register.proofs.waiting_stands.Tie as tie
+
+abbrev Inv-loop : tie.InvT-loop
+Inv-loop calendar register day first spans next places i₀ i =
+    (i ≤ places)
+    × (waitingOk (rules calendar) (bodyOf register) [] (placesAt register 8 places)
+    ≡ waitingOk (rules calendar) (bodyOf register) (placesAt register 8 i) (placesAt register (8 + 4 * i) (places - i)))
+
+abbrev μ-loop : tie.MeasureT-loop
+μ-loop calendar register day first spans next places i₀ i = places - i
+
+refused : (c : tie.After-refusal Inv-loop μ-loop) →
+    let a = c .before .before .before .before .before .before .before .before .before .before .args in
+    let bs = a .register .now in
+    c .refusal .result ≡ beside (rules (a .calendar .now)) (bodyOf bs) bs 8 (getD bs 1 0) (c .before .before .before .before .before .loop .i)
+unfolding bodyOf
+refused c =
+    let a = c .before .before .before .before .before .before .before .before .before .before .args in
+    let bs = a .register .now in
+    let i = c .before .before .before .before .before .loop .i in
+    let p = c .before .before .before .before .before .before .before .before .before .before .pre in
+    let e = rw (c .before .before .before .before .before .before .before .next-first .ensures, c .before .waits-beside .ensures, c .before .before .before .word .ensures, c .before .before .word2 .ensures, p .7, p .5, p .4) at (c .refusal .ensures) in
+    e ∙ causes-are (a .calendar .now) (bodyOf bs) (placesAt bs 8 i ++ placesAt bs (8 + 4 * i + 4) (getD bs 1 0 - i - 1)) (at16 bs (8 + 4 * i)) (at16 bs (8 + 4 * i + 2))
+
+next-first-requires : tie.Need-next-first-requires Inv-loop μ-loop
+next-first-requires c κs = (c .before .before .pre .3, c .before .before .pre .0)
+
+shared-slice-read-places : tie.Need-shared-slice-read-places Inv-loop μ-loop
+shared-slice-read-places c = search needs
+
+cast-places : tie.Need-cast-places Inv-loop μ-loop
+cast-places c = search needs
+
+loop-holds : tie.Need-loop-holds Inv-loop μ-loop
+loop-holds c =
+    let a = c .before .before .before .before .args in
+    let bs = a .register .now in
+    (omega arith, waiting-start (rules (a .calendar .now)) (bodyOf bs) bs 8 (getD bs 1 0))
+
+mul-at : tie.Need-mul-at Inv-loop μ-loop
+mul-at c = search needs
+
+add-at : tie.Need-add-at Inv-loop μ-loop
+add-at c = search needs
+
+word-requires : tie.Need-word-requires Inv-loop μ-loop
+word-requires c κs = search needs
+
+cast-month : tie.Need-cast-month Inv-loop μ-loop
+cast-month c = search needs
+
+add-word : tie.Need-add-word Inv-loop μ-loop
+add-word c = search needs
+
+word-requires-2 : tie.Need-word-requires-2 Inv-loop μ-loop
+word-requires-2 c κs = search needs
+
+cast-price : tie.Need-cast-price Inv-loop μ-loop
+cast-price c = search needs
+
+waits-beside-requires : tie.Need-waits-beside-requires Inv-loop μ-loop
+waits-beside-requires c κs = search needs
+
+refusal-requires : tie.Need-refusal-requires Inv-loop μ-loop
+refusal-requires c κs =
+    let cal = c .before .before .before .before .before .before .before .before .before .args .calendar .now in
+    let p = c .before .before .before .before .before .before .before .before .before .pre in
+    (p .5, p .6, omega (arith, c .before .before .before .before .before .before .next-first .ensures, live-top cal (nextSession cal (c .before .before .before .before .before .before .before .before .before .args .day))))
+
+returns : tie.Need-returns Inv-loop μ-loop
+unfolding bodyOf
+returns c =
+    let a = c .before .before .before .before .before .before .before .before .before .before .before .args in
+    let bs = a .register .now in
+    let l = c .before .before .before .before .before .before .loop in
+    sym (l .inv .1 ∙ waiting-stop (rules (a .calendar .now)) (bodyOf bs) bs 8 (getD bs 1 0) (l .i) (c .before .before .before .before .before .loop-test .taken) (λ q. c .if1 .taken (refused (c .before) ∙ q)))
+
+add-i : tie.Need-add-i Inv-loop μ-loop
+add-i c = search needs
+
+loop-less : tie.Need-loop-less Inv-loop μ-loop
+loop-less c = search needs
+
+loop-again : tie.Need-loop-again Inv-loop μ-loop
+loop-again c =
+    let a = c .before .before .before .before .before .before .before .before .before .before .before .args in
+    let bs = a .register .now in
+    let l = c .before .before .before .before .before .before .loop in
+    (omega arith, l .inv .1 ∙ waiting-next (rules (a .calendar .now)) (bodyOf bs) bs 8 (getD bs 1 0) (l .i) (c .before .before .before .before .before .loop-test .taken) (sym (refused (c .before)) ∙ c .if1 .left))
+
+returns-2 : tie.Need-returns-2 Inv-loop μ-loop
+unfolding bodyOf
+returns-2 c =
+    let a = c .before .before .before .before .before .before .args in
+    let bs = a .register .now in
+    let l = c .before .loop in
+    sym (l .inv .1 ∙ waiting-end (rules (a .calendar .now)) (bodyOf bs) bs 8 (getD bs 1 0) (l .i) (c .loop-test .left))
+
+pub waiting-stands-spec : {M : Type 1} → statement M
+waiting-stands-spec =
+    tie.close
+    (tie.spec
+    Inv-loop
+    μ-loop
+    next-first-requires
+    shared-slice-read-places
+    cast-places
+    loop-holds
+    mul-at
+    add-at
+    word-requires
+    cast-month
+    add-word
+    word-requires-2
+    cast-price
+    waits-beside-requires
+    refusal-requires
+    returns
+    add-i
+    loop-less
+    loop-again
+    returns-2)

@@ -1,0 +1,95 @@
+-- `register::waits` meets its contract. The loop keeps an equation: a price waits where it waits in the places left.
+-- Assumes nothing.
+use mathlib.Core.Path.{_≡_, sym, _∙_}
+use mathlib.Core.Logic.{⊎-elim}
+use Prim.Native.Nat.{_+_, _-_, _*_, _≤_}
+use native.Mathlib.Omega.{arith}
+use borrow.Author.Needs.{needs}
+use Rattle.base.specs.Lists.{elem}
+use Rattle.register.specs.Register.{waitingOf}
+use Rattle.register.specs.Scan.{placesAt}
+use Rattle.register.proofs.Steps.{start-of, next-of}
+use Rattle.register.proofs.Waiting.{waits-end, waits-here, waits-next}
+use Rattle.register.proofs.waits.Statement.{statement}
+use Rattle.register.proofs.waits.Tie as tie
+
+abbrev Inv-loop : tie.InvT-loop
+Inv-loop register at places month price i₀ i =
+    (i ≤ places) × (elem price (waitingOf month (placesAt register at places)) ≡ elem price (waitingOf month (placesAt register (at + 4 * i) (places - i))))
+
+abbrev μ-loop : tie.MeasureT-loop
+μ-loop register at places month price i₀ i = places - i
+
+loop-holds : tie.Need-loop-holds Inv-loop μ-loop
+loop-holds c =
+    let a = c .before .args in
+    (omega arith, start-of (λ n p. elem (a .price) (waitingOf (a .month) (placesAt (a .register .now) p n))) 4 (a .places) (a .at))
+
+mul-place : tie.Need-mul-place Inv-loop μ-loop
+mul-place c = search needs
+
+add-place : tie.Need-add-place Inv-loop μ-loop
+add-place c = search needs
+
+word-requires : tie.Need-word-requires Inv-loop μ-loop
+word-requires c κs = search needs
+
+cast-if1 : tie.Need-cast-if1 Inv-loop μ-loop
+cast-if1 c = search needs
+
+add-word : tie.Need-add-word Inv-loop μ-loop
+add-word c = search needs
+
+word-requires-2 : tie.Need-word-requires-2 Inv-loop μ-loop
+word-requires-2 c κs = search needs
+
+cast-if2 : tie.Need-cast-if2 Inv-loop μ-loop
+cast-if2 c = search needs
+
+returns : tie.Need-returns Inv-loop μ-loop
+returns c =
+    let a = c .before .before .before .before .before .before .before .args in
+    let l = c .before .before .before .before .before .loop in
+    sym (l .inv .1
+    ∙ waits-here (a .register .now) (a .at + 4 * l .i) (a .places - l .i) (a .month) (a .price) (omega arith)
+    (c .before .before .if1 .taken ∙ c .before .before .before .word .ensures) (c .if2 .taken ∙ c .before .word2 .ensures))
+
+add-i : tie.Need-add-i Inv-loop μ-loop
+add-i c = search needs
+
+loop-less : tie.Need-loop-less Inv-loop μ-loop
+loop-less c = search needs
+
+loop-again : tie.Need-loop-again Inv-loop μ-loop
+loop-again c =
+    let a = c .before .before .before .before .before .args in
+    let l = c .before .before .before .loop in
+    let e = waits-next (a .register .now) (a .at + 4 * l .i) (a .places - l .i) (a .month) (a .price) (omega arith)
+    (λ m p. ⊎-elim (λ w. w .2 .left (p ∙ sym (w .1 .ensures))) (λ w. w .left (m ∙ sym (c .before .word .ensures))) (c .if1 .came)) in
+    (omega arith, l .inv .1 ∙ e ∙ next-of (λ n p. elem (a .price) (waitingOf (a .month) (placesAt (a .register .now) p n))) 4 (a .places) (a .at) (l .i))
+
+returns-2 : tie.Need-returns-2 Inv-loop μ-loop
+returns-2 c =
+    let a = c .before .before .before .args in
+    let l = c .before .loop in
+    sym (l .inv .1 ∙ waits-end (a .register .now) (a .at + 4 * l .i) (a .places - l .i) (a .month) (a .price) (omega arith))
+
+pub waits-spec : {M : Type 1} → statement M
+waits-spec =
+    tie.close
+    (tie.spec
+    Inv-loop
+    μ-loop
+    loop-holds
+    mul-place
+    add-place
+    word-requires
+    cast-if1
+    add-word
+    word-requires-2
+    cast-if2
+    returns
+    add-i
+    loop-less
+    loop-again
+    returns-2)

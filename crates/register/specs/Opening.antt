@@ -1,0 +1,50 @@
+-- Document 01, "Causes and what they yield": the causes 11 to 15 that every register call tries first, and the rows call.
+-- Assumes nothing.
+use mathlib.Core.Bool.{Bool, true, cond, not, _&&_}
+use mathlib.Core.List.{List, [], _∷_}
+use Prim.Native.Nat.{ℕ}
+use lib.Dec.{eqb}
+use lib.ListN.{length}
+use Rattle.base.specs.Lists.{elem}
+use Rattle.base.specs.Causes.{cause, firstOf}
+use Rattle.rules.specs.Rules.{Rules}
+use Rattle.register.specs.Rows.{Row}
+use Rattle.register.specs.Register.{Reg, empty, running, wellFormed}
+use Rattle.register.specs.Bytes.{registerLength, rowsBytes, bodyOf, regOf, inLayout}
+
+-- the rows of a month
+unfoldable pub monthRows : ℕ → List Row → List Row
+monthRows m [] = []
+monthRows m (r ∷ rs) = cond (eqb (r .month) m) (r ∷ monthRows m rs) (monthRows m rs)
+
+module _ (R : Rules) where
+  -- a register that is empty, or keeps the layout and is well formed
+  unfoldable pub emptyOrWell : Reg → Bool
+  emptyOrWell empty = true
+  emptyOrWell (running b) = wellFormed R b
+
+  unfoldable pub stands : List ℕ → Bool
+  stands bs = inLayout bs && emptyOrWell (regOf bs)
+
+  -- the calendar's causes, 14, 15, and then the number that the call has of its own
+  unfoldable pub opened : List ℕ → ℕ → ℕ
+  opened bs own =
+      firstOf
+      (R .calendarCause
+      ∷ cause (not (eqb (length bs) registerLength)) 14
+      ∷ cause (not (stands bs)) 15
+      ∷ own
+      ∷ [])
+
+  -- ---- rows of a month
+
+  unfoldable pub rowsCause : ℕ → Reg → ℕ
+  rowsCause m empty = 17
+  rowsCause m (running b) = firstOf (cause (not (elem m (R .live (b .at)))) 26 ∷ [])
+
+  unfoldable pub rowsNumber : List ℕ → ℕ → ℕ
+  rowsNumber bs m = opened bs (rowsCause m (regOf bs))
+
+  -- the part: the bytes of the month's rows; for every refusal none
+  unfoldable pub rowsPart : List ℕ → ℕ → List ℕ
+  rowsPart bs m = cond (eqb (rowsNumber bs m) 0) (rowsBytes (monthRows m (bodyOf bs .rows))) []

@@ -1,0 +1,27 @@
+-- The six spans of a register as they are taken up, lowest and highest price of each live month. Contracts of leaves cite this file.
+-- Assumes nothing.
+use mathlib.Core.Bool.{Bool, cond, not, _&&_}
+use mathlib.Core.List.{List, [], _∷_}
+use Prim.Native.Nat.{ℕ}
+use lib.ListN.{replicate}
+use Rattle.calendar.specs.Live.{firstLive, liveMonths}
+use Rattle.rules.specs.Rulebook.{rules}
+use Rattle.register.specs.Register.{Body, spanLow, spanHigh}
+use Rattle.register.specs.Bytes.{at16, bodyOf, allZero}
+use Rattle.register.specs.Opening.{stands}
+
+-- a register that is not empty, keeps the layout and is well formed under a calendar
+unfoldable pub runsWell : List ℕ → List ℕ → Bool
+runsWell calendar bs = not (allZero bs) && stands (rules calendar) bs
+
+-- the spans of some months
+unfoldable pub spansOf : Body → List ℕ → List (List ℕ)
+spansOf b [] = []
+spansOf b (m ∷ ms) = (spanLow b m ∷ spanHigh b m ∷ []) ∷ spansOf b ms
+
+-- the six spans of a register that runs and is well formed; of any other, zeros, which no grid has
+unfoldable pub standingSpans : List ℕ → List ℕ → List (List ℕ)
+standingSpans calendar bs =
+    cond (runsWell calendar bs)
+    (spansOf (bodyOf bs) (liveMonths (firstLive calendar (at16 bs 2))))
+    (replicate 6 (0 ∷ 0 ∷ []))
