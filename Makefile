@@ -1,5 +1,5 @@
 # make test: everything that decides whether a change may land. make demo: what the register's ground tells of one day.
-# make bench: the calendar check and the names against an independent implementation.
+# make bench: every call of the C interface against an independent implementation.
 .PHONY: test demo bench
 
 test:

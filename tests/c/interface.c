@@ -415,8 +415,31 @@ static void test_register_without_month(void)
     CHECK(same(&some, &before));
 }
 
+/* The header's names for the causes, in the order of document 01's table, which counts from 11. */
+static void test_cause_numbers(void)
+{
+    static const unsigned causes[] = {
+        SINDHOPUL_CAUSE_CALENDAR_LENGTH, SINDHOPUL_CAUSE_CALENDAR_TAIL,
+        SINDHOPUL_CAUSE_CALENDAR_MONTH,  SINDHOPUL_CAUSE_REGISTER_LENGTH,
+        SINDHOPUL_CAUSE_REGISTER_FORM,   SINDHOPUL_CAUSE_RUNNING,
+        SINDHOPUL_CAUSE_EMPTY,           SINDHOPUL_CAUSE_START_DAY,
+        SINDHOPUL_CAUSE_SESSION_DAY,     SINDHOPUL_CAUSE_TOO_LATE,
+        SINDHOPUL_CAUSE_CLOSE,           SINDHOPUL_CAUSE_ANNOUNCE_MONTH,
+        SINDHOPUL_CAUSE_ANNOUNCE_PRICE,  SINDHOPUL_CAUSE_ANNOUNCE_KNOWN,
+        SINDHOPUL_CAUSE_ANNOUNCE_FULL,   SINDHOPUL_CAUSE_ROWS_MONTH,
+        SINDHOPUL_CAUSE_NAME_LENGTH,     SINDHOPUL_CAUSE_NAME_SERIES,
+        SINDHOPUL_CAUSE_NAME_BYTE,
+    };
+    unsigned i;
+    CHECK(SINDHOPUL_ACCEPTED == 0);
+    CHECK(sizeof causes / sizeof causes[0] == 19);
+    for (i = 0; i < 19; i++)
+        CHECK(causes[i] == 11 + i);
+}
+
 int main(void)
 {
+    test_cause_numbers();
     test_names_written();
     test_names_not_written();
     test_names_read();
