@@ -11,7 +11,7 @@ use borrow.Author.Tests.{ne-eqb, le-leb, lt-leb, leb-false, not-false}
 use Rattle.base.specs.Lists.{elem, within}
 use Rattle.base.specs.Causes.{cause, firstOf}
 use Rattle.base.proofs.Tests.{byBool, or-fl}
-use Rattle.base.proofs.CauseLaws.{none-of, not-cause}
+use Rattle.base.proofs.CauseLaws.{none-of, not-cause, decides, goes-on, alone}
 use Rattle.dates.specs.Months.{dayCount}
 use Rattle.calendar.specs.Calendar.{firstLacking, Passes, nextSession}
 use Rattle.calendar.specs.Live.{firstLive, liveMonths}
@@ -29,19 +29,11 @@ use Rattle.register.specs.Scan.{placesAt, spanIn, causesAt, openingCause, openi
 use Rattle.register.proofs.Kept.{places-count}
 use Rattle.register.proofs.Well.{Running, runs, runs-i, run-keeps, run-first}
 use Rattle.register.proofs.Waiting.{causes-are}
-use Rattle.register.proofs.Opens.{alone, zero-status, says-15, says-own, stands-else, opening-says}
+use Rattle.register.proofs.Opens.{zero-status, says-15, says-own, stands-else, opening-says}
 use Rattle.listing.specs.Listing.{number, accepted, announceBody}
 use Rattle.listing.specs.Calls.{numberAt, afterAt, announcedAt, waitingIn}
 use Rattle.listing.specs.declared.Announced.{Announced}
 use Rattle.announcing.specs.Placing.{announced, Room}
-
-decides : (n : ℕ) (ns : List ℕ) → (n ≡ 0 → ⊥) → firstOf (n ∷ ns) ≡ n
-unfolding firstOf
-decides n ns h = rw (ne-eqb n 0 h)
-
-goes-on : (n : ℕ) (ns : List ℕ) → n ≡ 0 → firstOf (n ∷ ns) ≡ firstOf ns
-unfolding firstOf
-goes-on n ns h = rw h
 
 -- ---- a register that runs: its day lies in the calendar, and its places in their part
 module _ (cal bs : List ℕ) (size : length bs ≡ registerLength) (r : Running cal bs) where

@@ -10,8 +10,9 @@ use lib.ListN.{length, getD, replicate}
 use borrow.Author.Tests.{eq-eqb, ne-eqb, not-true}
 use Rattle.base.specs.Causes.{cause, firstOf}
 use Rattle.base.proofs.Tests.{byBool, and-l, and-r}
-use Rattle.base.proofs.CauseLaws.{caused, passed}
+use Rattle.base.proofs.CauseLaws.{caused, passed, decides, alone}
 use Rattle.dates.specs.Months.{dayCount}
+use Rattle.calendar.specs.declared.Checked.{Checked}
 use Rattle.calendar.specs.Calendar.{session, calendarCause, firstLacking, Passes}
 use Rattle.calendar.specs.Live.{firstLive}
 use Rattle.grid.specs.Grid.{closeTaken}
@@ -21,17 +22,17 @@ use Rattle.rules.specs.Calls as Call
 use Rattle.rules.specs.Calls.{Call}
 use Rattle.register.specs.Register.{empty, running}
 use Rattle.register.specs.Bytes.{registerLength, bodyBytes, bytesOf, at16, bodyOf, allZero, regOf, sameBytes, inLayout}
+use Rattle.register.specs.Scan.{openingCause, openingOf}
 use Rattle.register.specs.Opening.{emptyOrWell, stands, opened}
 use Rattle.register.specs.Spans.{runsWell, standingSpans}
 use Rattle.register.proofs.ByteLaws.{same-self}
 use Rattle.register.proofs.Kept.{zeros-are}
 use Rattle.register.proofs.Well.{runs, run-held, first-low}
 use Rattle.listing.specs.declared.Listed.{Listed}
-use Rattle.listing.specs.declared.Opening.{Opening}
 use Rattle.listing.specs.Listing.{startBody, number, accepted}
 use Rattle.listing.specs.Calls.{numberAt, afterAt, rowsHeld, added, removed, listedAt}
-use Rattle.listing.specs.Writing.{openingCause, openingOf, refusal, answer, sessionOf}
-use Rattle.listing.proofs.Opens.{decides, alone, Opens, by-calendar, by-length, by-status, goes-on, opens}
+use Rattle.listing.specs.Writing.{refusal, answer, sessionOf}
+use Rattle.listing.proofs.Opens.{Opens, by-calendar, by-length, by-status, goes-on, opens}
 
 -- bytes that begin with 0 are not those of a running register
 not-one : (bs rest : List ℕ) → getD bs 0 0 ≡ 0 → sameBytes bs (1 ∷ rest) ≡ false
@@ -126,7 +127,7 @@ module _ (cal bs : List ℕ) (k : Call) where
           (λ z. no-status p l z s ∙ sym (n ∙ rw z))
       by (goes-on p l s n) = absurd (h n)
 
-  pub opening-refused : (o : Opening) → o ≡ openingOf cal bs → (o .number ≡ 0 → ⊥) → (o .number ≡ 17 → number R k empty ≡ 17)
+  pub opening-refused : (o : Checked) → o ≡ openingOf cal bs → (o .number ≡ 0 → ⊥) → (o .number ≡ 17 → number R k empty ≡ 17)
       → (refusal (o .number) (o .month) ≡ listedAt cal k bs) × (bs ≡ afterAt R k bs)
   unfolding openingOf
   opening-refused o q = rw q (λ z t. refused-as (openingCause cal bs) _ (opens-refused z t) z refl)

@@ -11,8 +11,9 @@ use borrow.Author.Tests.{eqb-true, eqb-false, eq-eqb, ne-eqb, lt-ltb, le-ltb, lt
 use Rattle.base.specs.Search.{someIn}
 use Rattle.base.specs.Causes.{cause, firstOf}
 use Rattle.base.proofs.Tests.{byBool, byLe, and-l}
-use Rattle.base.proofs.CauseLaws.{none-of, not-cause, caused, passed}
+use Rattle.base.proofs.CauseLaws.{none-of, not-cause, caused, passed, alone}
 use Rattle.dates.specs.Months.{monthCount, dayCount}
+use Rattle.calendar.specs.declared.Checked.{Checked}
 use Rattle.calendar.specs.Calendar.{calendarLength, session, tailSet, lacks, calendarCauses, calendarCause, firstLacking, Passes, nextSession}
 use Rattle.calendar.specs.Live.{firstLive}
 use Rattle.calendar.proofs.LiveLaws.{live-day}
@@ -22,45 +23,16 @@ use Rattle.rules.specs.Rulebook.{firstAt, rules}
 use Rattle.rules.specs.Calls.{start, session as sessionCall}
 use Rattle.register.specs.Register.{Body, empty, running}
 use Rattle.register.specs.Bytes.{registerLength, allZero}
-use Rattle.listing.specs.declared.Opening.{Opening}
+use Rattle.register.specs.Scan.{openingCause, openingOf}
+use Rattle.register.proofs.Opens.{zero-status, opens-calendar, opens-length, opens-status}
 use Rattle.listing.specs.Listing.{number}
-use Rattle.listing.specs.Writing.{openingCause, openingOf, listingCause, Taken}
-
--- a number that is not 0 decides, and of one number alone that is the first
-pub decides : (n : ℕ) (ns : List ℕ) → (n ≡ 0 → ⊥) → firstOf (n ∷ ns) ≡ n
-unfolding firstOf
-decides n ns h = rw (ne-eqb n 0 h)
-
-pub alone : (n : ℕ) → firstOf (n ∷ []) ≡ n
-unfolding firstOf
-alone n = byBool (eqb n 0) (λ e. rw e (sym (eqb-true n 0 e))) (λ e. rw e)
+use Rattle.listing.specs.Writing.{listingCause, Taken}
 
 -- ---- how a call opens
 module _ (cal bs : List ℕ) where
-  pub opens-as : (n m : ℕ) → openingCause cal bs ≡ n → m ≡ cond (eqb n 13) (firstLacking cal) 0 → _≡_ {A = Opening} (record { number = n; month = m }) (openingOf cal bs)
+  pub opens-with : (o : Checked) → o ≡ openingOf cal bs → o .number ≡ openingCause cal bs
   unfolding openingOf
-  opens-as n m e f =
-      let g : m ≡ cond (eqb (openingCause cal bs) 13) (firstLacking cal) 0 = f ∙ ap (λ (k : ℕ). cond (eqb k 13) (firstLacking cal) 0) (sym e) in
-      λ i. record { number = sym e i; month = g i }
-
-  pub opens-with : (o : Opening) → o ≡ openingOf cal bs → o .number ≡ openingCause cal bs
-  unfolding openingOf
-  opens-with o e = ap (λ (o : Opening). o .number) e
-
-  pub opens-calendar : (calendarCause cal ≡ 0 → ⊥) → openingCause cal bs ≡ calendarCause cal
-  unfolding openingCause
-  opens-calendar h = decides (calendarCause cal) _ h
-
-  module _ (p : Passes cal) where
-    rest : openingCause cal bs ≡ firstOf (cause (not (eqb (length bs) registerLength)) 14 ∷ cause (eqb (getD bs 0 0) 0) (cond (allZero bs) 17 15) ∷ [])
-    unfolding openingCause firstOf
-    rest = rw p
-
-    pub opens-length : (length bs ≡ registerLength → ⊥) → openingCause cal bs ≡ 14
-    opens-length h = rest ∙ caused (not (eqb (length bs) registerLength)) 13 _ (ap not (ne-eqb (length bs) registerLength h))
-
-    pub opens-status : length bs ≡ registerLength → openingCause cal bs ≡ cause (eqb (getD bs 0 0) 0) (cond (allZero bs) 17 15)
-    opens-status h = rest ∙ passed (not (eqb (length bs) registerLength)) 14 _ (ap not (eq-eqb (length bs) registerLength h)) ∙ alone _
+  opens-with o e = ap (λ (o : Checked). o .number) e
 
 -- the calendar's causes are 11 to 13
 calendar-low : (a b c : Bool) → firstOf (cause a 11 ∷ cause b 12 ∷ cause c 13 ∷ []) ≤ 13
@@ -96,11 +68,6 @@ opens cal bs =
     low = calendar-low (not (eqb (length cal) calendarLength)) (tailSet cal) (someIn (lacks cal) 0 monthCount)
 
 -- the register is empty, or its status shows that it may run
-zero-first : (bs : List ℕ) → allZero bs ≡ true → getD bs 0 0 ≡ 0
-unfolding allZero
-zero-first [] z = refl
-zero-first (y ∷ ys) z = eqb-true y 0 (and-l (eqb y 0) _ z)
-
 pub opens-empty : (cal bs : List ℕ) → openingCause cal bs ≡ 17 → Passes cal × (length bs ≡ registerLength) × (allZero bs ≡ true)
 opens-empty cal bs o = by (opens cal bs)
   where
@@ -120,7 +87,7 @@ opens-running cal bs o = by (opens cal bs)
         byBool (allZero bs)
         (λ z. let q : openingCause cal bs ≡ 17 = n ∙ rw z in absurd (omega arith))
         (λ z. let q : openingCause cal bs ≡ 15 = n ∙ rw z in absurd (omega arith))
-    by (goes-on p l s n) = (p, l, byBool (allZero bs) (λ z. absurd (s (zero-first bs z))) (λ z. z))
+    by (goes-on p l s n) = (p, l, byBool (allZero bs) (λ z. absurd (s (zero-status bs z))) (λ z. z))
 
 -- ---- causes 20 and 21
 module _ (cal : List ℕ) (day close : ℕ) where

@@ -19,22 +19,6 @@ use Rattle.register.specs.Bytes.{registerLength, two, bodyOf, allZero}
 use Rattle.listing.specs.Listing.{sessionBody}
 use Rattle.listing.specs.Calls.{rowsHeld, added, removed}
 use Rattle.listing.specs.declared.Listed.{Listed}
-use Rattle.listing.specs.declared.Opening.{Opening}
-
--- ---- how every call opens: of the causes 11 to 15 and 17, those that show without a look at the rows
-unfoldable pub openingCause : List ℕ → List ℕ → ℕ
-openingCause calendar bs =
-    firstOf
-    (calendarCause calendar
-    ∷ cause (not (eqb (length bs) registerLength)) 14
-    ∷ cause (eqb (getD bs 0 0) 0) (cond (allZero bs) 17 15)
-    ∷ [])
-
-unfoldable pub openingOf : List ℕ → List ℕ → Opening
-openingOf calendar bs = record {
-  number = openingCause calendar bs;
-  month = cond (eqb (openingCause calendar bs) 13) (firstLacking calendar) 0;
-}
 
 -- the answer of a call that is refused
 abbrev pub refusal : ℕ → ℕ → Listed

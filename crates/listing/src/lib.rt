@@ -1,4 +1,4 @@
-// Start, session and announce on the register's bytes.
+// Start and session on the register's bytes.
 use dates::DAYS;
 use register::LAST_FIRST_MONTH;
 use register::PLACES;
@@ -20,7 +20,7 @@ ghost use Rattle.register.specs.Spans.{runsWell, standingSpans};
 ghost use Rattle.ladders.specs.Writing.{rowsIn, laddersFrom, planAt, Ready};
 ghost use Rattle.listing.specs.Listing.{number, startBody};
 ghost use Rattle.listing.specs.Calls.{afterAt, listedAt};
-ghost use Rattle.listing.specs.Writing.{openingOf, refusal, listingCause, answer, quiet, headBytes, Taken, sessionOf, droppedRows};
+ghost use Rattle.listing.specs.Writing.{refusal, listingCause, answer, quiet, headBytes, Taken, sessionOf, droppedRows};
 
 // What a start or a session answers: its number, and where that is 0 the rows added, the rows removed and the row count;
 // beside 13 the month in `added`.
@@ -37,48 +37,6 @@ pub struct Listed {
 pub struct Announced {
     pub number: u16,
     pub waiting: u16,
-}
-
-// How a call opens: the number of a cause that shows without a look at the rows, or 0, and beside 13 the month.
-pub struct Opening {
-    pub number: u16,
-    pub month: u16,
-}
-
-// Causes 11 to 14, 17, and 15 where the status is 0 and another byte is not.
-fn open_register(calendar: &[u8], register: &[u8]) -> Opening
-    ensures { λ r. ⌜ r ≡ openingOf (now (calendar .entry)) (now (register .entry)) ⌝ }
-{
-    let checked = calendar::check(calendar);
-    if checked.number != 0 {
-        return Opening {
-            number: checked.number,
-            month: checked.month,
-        };
-    }
-    if register.len() != REGISTER_LENGTH {
-        return Opening {
-            number: 14,
-            month: 0,
-        };
-    }
-    if register[0] != 0 {
-        return Opening {
-            number: 0,
-            month: 0,
-        };
-    }
-    if register::is_zero(register) {
-        Opening {
-            number: 17,
-            month: 0,
-        }
-    } else {
-        Opening {
-            number: 15,
-            month: 0,
-        }
-    }
 }
 
 fn refused(number: u16, month: u16) -> Listed
@@ -296,7 +254,7 @@ pub fn start(calendar: &[u8], register: &mut [u8], day: u32, close: u32) -> List
     ensures { λ r. ⌜ r ≡ listedAt (now (calendar .entry)) (Call.start day close) (now (register .entry)) ⌝ }
     ensures { λ _. ⌜ now (register .exit) ≡ afterAt (rules (now (calendar .entry))) (Call.start day close) (now (register .entry)) ⌝ }
 {
-    let opening = open_register(calendar, register);
+    let opening = register::opening(calendar, register);
     if opening.number == 17 {
         let number = start_cause(calendar, day, close);
         if number != 0 {
@@ -321,7 +279,7 @@ pub fn session(calendar: &[u8], register: &mut [u8], day: u32, close: u32) -> Li
     ensures { λ r. ⌜ r ≡ listedAt (now (calendar .entry)) (Call.session day close) (now (register .entry)) ⌝ }
     ensures { λ _. ⌜ now (register .exit) ≡ afterAt (rules (now (calendar .entry))) (Call.session day close) (now (register .entry)) ⌝ }
 {
-    let opening = open_register(calendar, register);
+    let opening = register::opening(calendar, register);
     if opening.number != 0 {
         return refused(opening.number, opening.month);
     }

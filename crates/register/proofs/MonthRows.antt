@@ -15,6 +15,7 @@ use Rattle.base.specs.Lists.{elem}
 use Rattle.base.specs.Causes.{cause}
 use Rattle.base.specs.declared.Tier.{Tier}
 use Rattle.base.proofs.Tests.{byBool, or-fl, or-fr, eqb-self}
+use Rattle.base.proofs.CauseLaws.{alone}
 use Rattle.base.proofs.ListLaws.{elem-here, elem-there}
 use Rattle.calendar.specs.Live.{firstLive, liveMonths, tierOf}
 use Rattle.grid.specs.Numbers.{numberOf, stride}
@@ -33,7 +34,7 @@ use Rattle.register.proofs.Held.{ladderOf, Held, Apart, live-apart}
 use Rattle.register.proofs.Runs.{run-is}
 use Rattle.register.proofs.Found.{Spanned, spanned}
 use Rattle.register.proofs.Well.{Running, runs, runs-i, run-held, rows-behind}
-use Rattle.register.proofs.Opens.{alone, zero-status, says-15, says-own, stands-else, opens, opening-says}
+use Rattle.register.proofs.Opens.{zero-status, says-15, says-own, stands-else, opens, opening-says}
 
 -- ---- the loop over the months, from the i-th on
 -- the size of the i-th month's rows in bytes

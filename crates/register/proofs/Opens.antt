@@ -10,7 +10,7 @@ use lib.ListN.{length, getD}
 use borrow.Author.Tests.{eqb-true, eqb-false, eq-eqb, ne-eqb, not-false}
 use Rattle.base.specs.Causes.{cause, firstOf}
 use Rattle.base.proofs.Tests.{byBool, and-l}
-use Rattle.base.proofs.CauseLaws.{none-of, not-cause, caused, passed}
+use Rattle.base.proofs.CauseLaws.{none-of, not-cause, decides, goes-on, alone, caused, passed}
 use Rattle.calendar.specs.Calendar.{calendarCause, checkOf, Passes}
 use Rattle.rules.specs.Rulebook.{rules}
 use Rattle.register.specs.Bytes.{registerLength, bytesOf, allZero, regOf, inLayout}
@@ -20,19 +20,6 @@ use Rattle.register.specs.Scan.{openingCause, openingOf}
 use Rattle.register.proofs.ByteLaws.{same-self}
 use Rattle.register.proofs.Kept.{zeros-are}
 use Rattle.register.proofs.Well.{runs, run-keeps}
-
--- a number that is not 0 decides, and one number alone is the first
-decides : (n : ℕ) (ns : List ℕ) → (n ≡ 0 → ⊥) → firstOf (n ∷ ns) ≡ n
-unfolding firstOf
-decides n ns h = rw (ne-eqb n 0 h)
-
-goes-on : (n : ℕ) (ns : List ℕ) → n ≡ 0 → firstOf (n ∷ ns) ≡ firstOf ns
-unfolding firstOf
-goes-on n ns h = rw h
-
-pub alone : (n : ℕ) → firstOf (n ∷ []) ≡ n
-unfolding firstOf
-alone n = byBool (eqb n 0) (λ e. rw e (sym (eqb-true n 0 e))) (λ e. rw e)
 
 pub zero-status : (bs : List ℕ) → allZero bs ≡ true → getD bs 0 0 ≡ 0
 unfolding allZero

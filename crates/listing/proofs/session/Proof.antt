@@ -9,11 +9,12 @@ use lib.ListN.{length}
 use borrow.Author.Needs.{needs}
 use Rattle.calendar.specs.Calendar.{Passes, nextSession}
 use Rattle.rules.specs.Calls as Call
+use Rattle.register.specs.Scan.{openingCause}
 use Rattle.register.specs.Bytes.{registerLength, at16, bodyOf, allZero}
 use Rattle.register.specs.Spans.{runsWell}
 use Rattle.register.proofs.Well.{runs}
 use Rattle.listing.specs.Listing.{number}
-use Rattle.listing.specs.Writing.{openingCause, Taken}
+use Rattle.listing.specs.Writing.{Taken}
 use Rattle.listing.proofs.Opens.{opens-with, opens-running, session-taken}
 use Rattle.listing.proofs.Starts.{day-in}
 use Rattle.listing.proofs.Before.{day-was}
@@ -27,11 +28,11 @@ cal s = s .args .calendar .now
 abbrev bs : tie.Start → List ℕ
 bs s = s .args .register .now
 
-abbrev entry : tie.After-open-register → tie.Start
+abbrev entry : tie.After-opening → tie.Start
 entry c = c .before .before .before .before
 
-cause-is : (c : tie.After-open-register) → c .open-register .result .number ≡ openingCause (cal (entry c)) (bs (entry c))
-cause-is c = opens-with (cal (entry c)) (bs (entry c)) (c .open-register .result) (c .open-register .ensures)
+cause-is : (c : tie.After-opening) → c .opening .result .number ≡ openingCause (cal (entry c)) (bs (entry c))
+cause-is c = opens-with (cal (entry c)) (bs (entry c)) (c .opening .result) (c .opening .ensures)
 
 -- a register with a status, and one that runs
 has-status : (c : tie.Else1) → let s = entry (c .before .before) in Passes (cal s) × (length (bs s) ≡ registerLength) × (allZero (bs s) ≡ false)
@@ -55,8 +56,8 @@ taken c =
     let s = start e in
     session-taken (cal s) (s .args .day) (s .args .close) (bodyOf (bs s)) (has-status (opened e) .0) (sym (c .before .session-cause .ensures) ∙ c .if3 .left)
 
-open-register-requires : tie.Need-open-register-requires
-open-register-requires c κs = search needs
+opening-requires : tie.Need-opening-requires
+opening-requires c κs = search needs
 
 refused-requires : tie.Need-refused-requires
 refused-requires c κs = search needs
@@ -69,7 +70,7 @@ unfolding number
 returns c =
     let o = c .before .before .before in
     let s = entry o in
-    let x = opening-refused (cal s) (bs s) (Call.session (s .args .day) (s .args .close)) (o .open-register .result) (o .open-register .ensures) (c .before .if1 .taken) (λ q. refl) in
+    let x = opening-refused (cal s) (bs s) (Call.session (s .args .day) (s .args .close)) (o .opening .result) (o .opening .ensures) (c .before .if1 .taken) (λ q. refl) in
     (c .refused .ensures ∙ x .0, x .1)
 
 standing-requires : tie.Need-standing-requires
@@ -145,7 +146,7 @@ pub session-spec : {M : Type 1} → statement M
 session-spec =
     tie.close
     (tie.spec
-    open-register-requires
+    opening-requires
     refused-requires
     same-length
     returns

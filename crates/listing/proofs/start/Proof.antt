@@ -9,8 +9,9 @@ use lib.ListN.{length}
 use borrow.Author.Needs.{needs}
 use Rattle.calendar.specs.Calendar.{Passes}
 use Rattle.rules.specs.Calls as Call
+use Rattle.register.specs.Scan.{openingCause}
 use Rattle.register.specs.Bytes.{registerLength, allZero}
-use Rattle.listing.specs.Writing.{openingCause, Taken}
+use Rattle.listing.specs.Writing.{Taken}
 use Rattle.listing.proofs.Opens.{opens-with, opens-empty, opens-running, start-taken}
 use Rattle.listing.proofs.Starts.{day-in}
 use Rattle.listing.proofs.Answers.{opening-refused, start-refused, start-accepted, start-running, stood, fell, refused-form}
@@ -23,11 +24,11 @@ cal s = s .args .calendar .now
 abbrev bs : tie.Start → List ℕ
 bs s = s .args .register .now
 
-abbrev entry : tie.After-open-register → tie.Start
+abbrev entry : tie.After-opening → tie.Start
 entry c = c .before .before .before .before
 
-cause-is : (c : tie.After-open-register) → c .open-register .result .number ≡ openingCause (cal (entry c)) (bs (entry c))
-cause-is c = opens-with (cal (entry c)) (bs (entry c)) (c .open-register .result) (c .open-register .ensures)
+cause-is : (c : tie.After-opening) → c .opening .result .number ≡ openingCause (cal (entry c)) (bs (entry c))
+cause-is c = opens-with (cal (entry c)) (bs (entry c)) (c .opening .result) (c .opening .ensures)
 
 -- an empty register, and one with a status
 empties : (c : tie.Then1) → let s = entry (c .before .before) in Passes (cal s) × (length (bs s) ≡ registerLength) × (allZero (bs s) ≡ true)
@@ -44,8 +45,8 @@ taken c =
     let s = entry (t .before .before) in
     start-taken (cal s) (s .args .day) (s .args .close) (empties t .0) (sym (c .before .start-cause .ensures) ∙ c .if2 .left)
 
-open-register-requires : tie.Need-open-register-requires
-open-register-requires c κs = search needs
+opening-requires : tie.Need-opening-requires
+opening-requires c κs = search needs
 
 start-cause-requires : tie.Need-start-cause-requires
 start-cause-requires c κs = empties c .0
@@ -97,7 +98,7 @@ returns-3 c =
     let e = c .before .before .before in
     let o = e .before .before in
     let s = entry o in
-    let x = opening-refused (cal s) (bs s) (Call.start (s .args .day) (s .args .close)) (o .open-register .result) (o .open-register .ensures) (c .before .if3 .taken) (λ q. absurd (e .if1 .left q)) in
+    let x = opening-refused (cal s) (bs s) (Call.start (s .args .day) (s .args .close)) (o .opening .result) (o .opening .ensures) (c .before .if3 .taken) (λ q. absurd (e .if1 .left q)) in
     (c .refused2 .ensures ∙ x .0, x .1)
 
 standing-requires : tie.Need-standing-requires
@@ -143,7 +144,7 @@ pub start-spec : {M : Type 1} → statement M
 start-spec =
     tie.close
     (tie.spec
-    open-register-requires
+    opening-requires
     start-cause-requires
     refused-requires
     same-length
