@@ -1,5 +1,5 @@
 /*
- * Sindhopul: the proved register of listed WIG20 options, its C interface.
+ * Sindhopul: the proved register of listed WIG20 options, its C interface, for C11 and C++11 on.
  *
  * Buffers. The caller owns every buffer. The library allocates nothing, keeps no pointer when a
  * call has returned and has no state of its own. A buffer comes as a pointer and its length in
@@ -132,19 +132,49 @@ typedef struct {
     uint16_t price; /* whole index points */
 } sindhopul_name_result;
 
+/* The layout that the library was compiled with. */
 #ifdef __cplusplus
-static_assert(sizeof(sindhopul_calendar_result) == 4, "two 16-bit numbers");
-static_assert(sizeof(sindhopul_listing_result) == 8, "four 16-bit numbers");
-static_assert(sizeof(sindhopul_announce_result) == 4, "two 16-bit numbers");
-static_assert(sizeof(sindhopul_rows_result) == 6, "three 16-bit numbers");
-static_assert(sizeof(sindhopul_name_result) == 8, "four 16-bit numbers");
+#define SINDHOPUL_HOLDS(condition, text) static_assert(condition, text)
 #else
-_Static_assert(sizeof(sindhopul_calendar_result) == 4, "two 16-bit numbers");
-_Static_assert(sizeof(sindhopul_listing_result) == 8, "four 16-bit numbers");
-_Static_assert(sizeof(sindhopul_announce_result) == 4, "two 16-bit numbers");
-_Static_assert(sizeof(sindhopul_rows_result) == 6, "three 16-bit numbers");
-_Static_assert(sizeof(sindhopul_name_result) == 8, "four 16-bit numbers");
+#define SINDHOPUL_HOLDS(condition, text) _Static_assert(condition, text)
 #endif
+#define SINDHOPUL_SIZE(type, size) SINDHOPUL_HOLDS(sizeof(type) == (size), #type)
+#define SINDHOPUL_PLACE(type, field, place)                                                        \
+    SINDHOPUL_HOLDS(offsetof(type, field) == (place), #type "." #field)
+
+SINDHOPUL_SIZE(sindhopul_calendar_result, 4);
+SINDHOPUL_PLACE(sindhopul_calendar_result, number, 0);
+SINDHOPUL_PLACE(sindhopul_calendar_result, month, 2);
+
+SINDHOPUL_SIZE(sindhopul_listing_result, 8);
+SINDHOPUL_PLACE(sindhopul_listing_result, number, 0);
+SINDHOPUL_PLACE(sindhopul_listing_result, added, 2);
+SINDHOPUL_PLACE(sindhopul_listing_result, removed, 4);
+SINDHOPUL_PLACE(sindhopul_listing_result, rows, 6);
+
+SINDHOPUL_SIZE(sindhopul_announce_result, 4);
+SINDHOPUL_PLACE(sindhopul_announce_result, number, 0);
+SINDHOPUL_PLACE(sindhopul_announce_result, waiting, 2);
+
+SINDHOPUL_SIZE(sindhopul_rows_result, 6);
+SINDHOPUL_PLACE(sindhopul_rows_result, number, 0);
+SINDHOPUL_PLACE(sindhopul_rows_result, at, 2);
+SINDHOPUL_PLACE(sindhopul_rows_result, size, 4);
+
+SINDHOPUL_SIZE(sindhopul_name_result, 8);
+SINDHOPUL_PLACE(sindhopul_name_result, number, 0);
+SINDHOPUL_PLACE(sindhopul_name_result, month, 2);
+SINDHOPUL_PLACE(sindhopul_name_result, type, 4);
+SINDHOPUL_PLACE(sindhopul_name_result, price, 6);
+
+/* The head, the announcements and the rows are all of a register. */
+SINDHOPUL_HOLDS(8 + 4 * SINDHOPUL_MOST_ANNOUNCEMENTS + SINDHOPUL_ROW_BYTES * SINDHOPUL_MOST_ROWS
+                    == SINDHOPUL_REGISTER_BYTES,
+                "the register's parts");
+
+#undef SINDHOPUL_PLACE
+#undef SINDHOPUL_SIZE
+#undef SINDHOPUL_HOLDS
 
 /* Checks a calendar. Numbers: 0, or the first that holds of 11, 12 and 13. */
 sindhopul_calendar_result sindhopul_calendar_check(const uint8_t *calendar, size_t calendar_length);

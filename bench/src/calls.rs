@@ -3,6 +3,7 @@
 use std::hint::black_box;
 
 use independent::{calls, RegisterError};
+use sindhopul::raw;
 
 use crate::contest::{best_times, contestant, Contestant};
 use crate::registers::{Desk, CLOSE, FAR_CLOSE, JUNE, MONDAY};
@@ -37,7 +38,7 @@ fn start(case: &'static str, desk: &Desk) -> Row {
     time(
         case,
         desk,
-        |calendar, register| sindhopul::start(calendar, register, day, CLOSE).number,
+        |calendar, register| raw::start(calendar, register, day, CLOSE).number,
         |calendar, register| calls::start(calendar, register, day, CLOSE),
     )
 }
@@ -50,7 +51,7 @@ fn session(case: &'static str, desk: &Desk, day: u32, close: u32) -> Row {
     time(
         case,
         desk,
-        |calendar, register| sindhopul::session(calendar, register, day, close).number,
+        |calendar, register| raw::session(calendar, register, day, close).number,
         |calendar, register| calls::session(calendar, register, day, close),
     )
 }
@@ -60,7 +61,7 @@ fn announce(case: &'static str, desk: &Desk) -> Row {
     time(
         case,
         desk,
-        |calendar, register| sindhopul::announce(calendar, register, month, price).number,
+        |calendar, register| raw::announce(calendar, register, month, price).number,
         |calendar, register| calls::announce(calendar, register, month, price),
     )
 }
@@ -70,7 +71,7 @@ fn rows_of_month(case: &'static str, desk: &Desk) -> Row {
     time(
         case,
         desk,
-        |calendar, register| sindhopul::rows(calendar, register, month).number,
+        |calendar, register| raw::rows(calendar, register, month).number,
         |calendar, register| calls::rows(calendar, register, month),
     )
 }

@@ -13,6 +13,7 @@ mod table;
 use std::hint::black_box;
 
 use independent::Calendar;
+use sindhopul::raw;
 
 use contest::{best_times, contestant};
 use table::Row;
@@ -35,10 +36,10 @@ fn main() {
 }
 
 fn check(case: &'static str, calendar: &[u8]) -> Row {
-    assert_eq!(sindhopul::calendar_check(calendar).number, 0);
+    assert_eq!(raw::calendar_check(calendar).number, 0);
     assert!(Calendar::check(calendar).is_ok());
     let [sindhopul, independent, yardstick] = best_times([
-        contestant(|| sindhopul::calendar_check(black_box(calendar))),
+        contestant(|| raw::calendar_check(black_box(calendar))),
         contestant(|| Calendar::check(black_box(calendar)).is_ok()),
         contestant(|| sum_of_words(black_box(calendar))),
     ]);

@@ -4,6 +4,7 @@ use std::hint::black_box;
 
 use independent::names::{self, NAME_BYTES};
 use independent::{grid, Tier};
+use sindhopul::raw;
 
 use crate::contest::{best_times, contestant};
 use crate::table::Row;
@@ -47,12 +48,7 @@ fn write_names(case: &'static str, series: &[Series]) -> Row {
             let mut name = [0; NAME_BYTES];
             for one in black_box(series) {
                 let name = black_box(&mut name);
-                black_box(sindhopul::name_write(
-                    name,
-                    one.month,
-                    one.option_type,
-                    one.price,
-                ));
+                black_box(raw::name_write(name, one.month, one.option_type, one.price));
             }
         }),
         contestant(|| {
@@ -72,7 +68,7 @@ fn read_names(case: &'static str, series: &[Series]) -> Row {
     let times = best_times([
         contestant(|| {
             for name in black_box(&names) {
-                black_box(sindhopul::name_read(name));
+                black_box(raw::name_read(name));
             }
         }),
         contestant(|| {
@@ -86,7 +82,7 @@ fn read_names(case: &'static str, series: &[Series]) -> Row {
 
 fn name_of(series: &Series) -> [u8; NAME_BYTES] {
     let mut name = [0; NAME_BYTES];
-    let number = sindhopul::name_write(&mut name, series.month, series.option_type, series.price);
+    let number = raw::name_write(&mut name, series.month, series.option_type, series.price);
     assert_eq!(number, 0);
     assert!(names::read(&name).is_ok());
     name

@@ -5,6 +5,7 @@
 
 pub mod calendar;
 pub mod calls;
+pub mod conformance;
 pub mod dates;
 pub mod grid;
 pub mod judge;

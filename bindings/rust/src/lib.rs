@@ -1,173 +1,58 @@
-//! The functions of `include/sindhopul.h`, safe to call. What the numbers mean stands there.
+//! The proved register of listed WIG20 options: which strikes are listed today, since when, and
+//! what the series are called.
+//!
+//! A [`Calendar`] is checked once, when it is made. A [`Register`] begins empty, is started on a
+//! session day and then moved from session to session with the close before each. Whatever cannot
+//! be done is a [`Refusal`], and leaves the register as it was.
+//!
+//! Days count from 0, 1 January 2000, and months from 0, January 2000; closes are in hundredths of
+//! an index point, prices of strikes in whole points.
+//!
+//! ```
+//! use sindhopul::{Calendar, OptionType, Refusal, Register};
+//!
+//! // Day 0 is a Saturday: a session on every weekday of the hundred years.
+//! let calendar = Calendar::with_sessions((0..36_525).filter(|day| day % 7 >= 2))?;
+//!
+//! // Monday, 16 November 2026, after a close of 2413.37.
+//! let mut register = Register::new();
+//! let listed = register.start(&calendar, 9_816, 241_337)?;
+//! assert_eq!(listed.rows, 94);
+//!
+//! // The exchange announces a strike of December 2026, and the next session lists it.
+//! register.announce(&calendar, 323, 3_100)?;
+//! let listed = register.session(&calendar, 9_817, 241_502)?;
+//! assert_eq!(listed.added, 6);
+//!
+//! let highest = register.rows(&calendar, 323)?.last().expect("a live month has rows");
+//! assert_eq!(highest.price, 3_100);
+//! assert_eq!(highest.name(OptionType::Call).as_str(), "OW20L263100");
+//!
+//! // The same session cannot come twice.
+//! let refusal = register.session(&calendar, 9_817, 241_502).unwrap_err();
+//! assert_eq!(refusal, Refusal::SessionDay);
+//! assert_eq!(refusal.number(), 19);
+//! # Ok::<(), Refusal>(())
+//! ```
 
-#[repr(C)]
-#[derive(Debug, Clone, Copy, PartialEq, Eq)]
-pub struct CalendarResult {
-    pub number: u16,
-    pub month: u16,
-}
+#![warn(missing_docs)]
+#![deny(unsafe_code)]
 
-#[repr(C)]
-#[derive(Debug, Clone, Copy, PartialEq, Eq)]
-pub struct ListingResult {
-    pub number: u16,
-    pub added: u16,
-    pub removed: u16,
-    pub rows: u16,
-}
+mod calendar;
+#[allow(unsafe_code)]
+pub mod raw;
+mod refusal;
+mod register;
+mod rows;
+mod series;
 
-#[repr(C)]
-#[derive(Debug, Clone, Copy, PartialEq, Eq)]
-pub struct AnnounceResult {
-    pub number: u16,
-    pub waiting: u16,
-}
+pub use calendar::{Calendar, CALENDAR_BYTES};
+pub use refusal::Refusal;
+pub use register::{Listed, Register, REGISTER_BYTES};
+pub use rows::{Origin, Row, Rows};
+pub use series::{Name, OptionType, Series};
 
-#[repr(C)]
-#[derive(Debug, Clone, Copy, PartialEq, Eq)]
-pub struct RowsResult {
-    pub number: u16,
-    pub at: u16,
-    pub size: u16,
-}
-
-impl RowsResult {
-    /// The part of the register that the result tells of.
-    pub fn part(self, register: &[u8]) -> &[u8] {
-        &register[self.at.into()..][..self.size.into()]
-    }
-}
-
-#[repr(C)]
-#[derive(Debug, Clone, Copy, PartialEq, Eq)]
-pub struct NameResult {
-    pub number: u16,
-    pub month: u16,
-    pub option_type: u16,
-    pub price: u16,
-}
-
-mod archive {
-    use super::{AnnounceResult, CalendarResult, ListingResult, NameResult, RowsResult};
-
-    extern "C" {
-        pub fn sindhopul_calendar_check(calendar: *const u8, length: usize) -> CalendarResult;
-        pub fn sindhopul_start(
-            calendar: *const u8,
-            calendar_length: usize,
-            register: *mut u8,
-            register_length: usize,
-            day: u32,
-            close: u32,
-        ) -> ListingResult;
-        pub fn sindhopul_session(
-            calendar: *const u8,
-            calendar_length: usize,
-            register: *mut u8,
-            register_length: usize,
-            day: u32,
-            close: u32,
-        ) -> ListingResult;
-        pub fn sindhopul_announce(
-            calendar: *const u8,
-            calendar_length: usize,
-            register: *mut u8,
-            register_length: usize,
-            month: u32,
-            price: u32,
-        ) -> AnnounceResult;
-        pub fn sindhopul_rows(
-            calendar: *const u8,
-            calendar_length: usize,
-            register: *const u8,
-            register_length: usize,
-            month: u32,
-        ) -> RowsResult;
-        pub fn sindhopul_name_write(
-            name: *mut u8,
-            length: usize,
-            month: u32,
-            option_type: u32,
-            price: u32,
-        ) -> u16;
-        pub fn sindhopul_name_read(name: *const u8, length: usize) -> NameResult;
-    }
-}
-
-/// Checks a calendar.
-pub fn calendar_check(calendar: &[u8]) -> CalendarResult {
-    // SAFETY: the call reads this slice and nothing else.
-    unsafe { archive::sindhopul_calendar_check(calendar.as_ptr(), calendar.len()) }
-}
-
-/// Starts an empty register on a session day.
-pub fn start(calendar: &[u8], register: &mut [u8], day: u32, close: u32) -> ListingResult {
-    // SAFETY: the call reads the calendar, reads and writes the register, and nothing else.
-    unsafe {
-        archive::sindhopul_start(
-            calendar.as_ptr(),
-            calendar.len(),
-            register.as_mut_ptr(),
-            register.len(),
-            day,
-            close,
-        )
-    }
-}
-
-/// Moves a register on to the next session day.
-pub fn session(calendar: &[u8], register: &mut [u8], day: u32, close: u32) -> ListingResult {
-    // SAFETY: the call reads the calendar, reads and writes the register, and nothing else.
-    unsafe {
-        archive::sindhopul_session(
-            calendar.as_ptr(),
-            calendar.len(),
-            register.as_mut_ptr(),
-            register.len(),
-            day,
-            close,
-        )
-    }
-}
-
-/// Announces a price of a month for the next session.
-pub fn announce(calendar: &[u8], register: &mut [u8], month: u32, price: u32) -> AnnounceResult {
-    // SAFETY: the call reads the calendar, reads and writes the register, and nothing else.
-    unsafe {
-        archive::sindhopul_announce(
-            calendar.as_ptr(),
-            calendar.len(),
-            register.as_mut_ptr(),
-            register.len(),
-            month,
-            price,
-        )
-    }
-}
-
-/// Tells where in a register a month's rows stand.
-pub fn rows(calendar: &[u8], register: &[u8], month: u32) -> RowsResult {
-    // SAFETY: the call reads these two slices and nothing else.
-    unsafe {
-        archive::sindhopul_rows(
-            calendar.as_ptr(),
-            calendar.len(),
-            register.as_ptr(),
-            register.len(),
-            month,
-        )
-    }
-}
-
-/// Writes the name of a series.
-pub fn name_write(name: &mut [u8], month: u32, option_type: u32, price: u32) -> u16 {
-    let (at, length) = (name.as_mut_ptr(), name.len());
-    // SAFETY: the call reads and writes this slice and nothing else.
-    unsafe { archive::sindhopul_name_write(at, length, month, option_type, price) }
-}
-
-/// Reads the series of a name.
-pub fn name_read(name: &[u8]) -> NameResult {
-    // SAFETY: the call reads this slice and nothing else.
-    unsafe { archive::sindhopul_name_read(name.as_ptr(), name.len()) }
-}
+/// The README's example, so that it is tried.
+#[cfg(doctest)]
+#[doc = include_str!("../README.md")]
+struct Readme;

@@ -7,7 +7,7 @@ use independent::dates::{first_day, third_friday, DAYS, MONTHS};
 use independent::warsaw::working_days;
 use independent::{live_months, tier, Calendar, CalendarError};
 use lookup::OUT_OF_RANGE;
-use sindhopul::CalendarResult;
+use sindhopul::raw::{self, CalendarResult};
 
 use crate::numbers::{beyond, Random};
 use crate::run::{Call, Run};
@@ -35,7 +35,7 @@ fn independent_check(bytes: &[u8]) -> CalendarResult {
 
 /// Checks a calendar of which the result is not known beforehand.
 fn compare(run: &mut Run, bytes: &[u8], case: Arguments) {
-    let archive = sindhopul::calendar_check(bytes);
+    let archive = raw::calendar_check(bytes);
     run.count(Call::CalendarCheck, archive.number);
     run.equal(archive, independent_check(bytes), case);
 }

@@ -5,7 +5,7 @@ use std::fmt::{self, Debug, Formatter};
 use independent::dates::MONTHS;
 use independent::names::{self, NAME_BYTES};
 use independent::{grid, NameError, Tier};
-use sindhopul::NameResult;
+use sindhopul::raw::{self, NameResult};
 
 use crate::numbers::{beyond, Random};
 use crate::run::{Call, Run};
@@ -32,7 +32,7 @@ fn compare_writing(run: &mut Run, length: usize, month: u32, option_type: u32, p
     let mut archive_room = [GUARD_BYTE; ROOM];
     let mut wanted_room = archive_room;
     let name = &mut archive_room[GUARD..][..length];
-    let archive = sindhopul::name_write(name, month, option_type, price);
+    let archive = raw::name_write(name, month, option_type, price);
     let name = &mut wanted_room[GUARD..][..length];
     let wanted = match names::write(name, month, option_type, price) {
         Ok(()) => 0,
@@ -65,7 +65,7 @@ fn independent_read(name: &[u8]) -> NameResult {
 
 /// Reads a name that is to give this result.
 fn expect_reading(run: &mut Run, name: &[u8], wanted: NameResult) {
-    let archive = sindhopul::name_read(name);
+    let archive = raw::name_read(name);
     run.count(Call::NameRead, archive.number);
     run.equal(archive, wanted, format_args!("reading {:?}", Text(name)));
 }

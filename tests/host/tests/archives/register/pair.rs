@@ -4,6 +4,7 @@ use std::fmt::Arguments;
 
 use independent::judge::Call;
 use independent::{calls, CalendarError, Listing, RegisterError};
+use sindhopul::raw::{self, ListingResult};
 
 use crate::room::Room;
 use crate::run::{self, Run};
@@ -142,22 +143,21 @@ fn counted(request: Request) -> run::Call {
 type Answer = [u16; 4];
 
 fn ask_archive(request: Request, calendar: &[u8], register: &mut [u8]) -> Answer {
-    let listing = |result: sindhopul::ListingResult| {
-        [result.number, result.added, result.removed, result.rows]
-    };
+    let listing =
+        |result: ListingResult| [result.number, result.added, result.removed, result.rows];
     match request {
         Request::Change(Call::Start { day, close }) => {
-            listing(sindhopul::start(calendar, register, day, close))
+            listing(raw::start(calendar, register, day, close))
         }
         Request::Change(Call::Session { day, close }) => {
-            listing(sindhopul::session(calendar, register, day, close))
+            listing(raw::session(calendar, register, day, close))
         }
         Request::Change(Call::Announce { month, price }) => {
-            let result = sindhopul::announce(calendar, register, month, price);
+            let result = raw::announce(calendar, register, month, price);
             [result.number, result.waiting, 0, 0]
         }
         Request::Rows { month } => {
-            let result = sindhopul::rows(calendar, register, month);
+            let result = raw::rows(calendar, register, month);
             [result.number, result.at, result.size, 0]
         }
     }

@@ -4,6 +4,7 @@ use std::fmt::Arguments;
 
 use independent::register::{ROWS_AT, ROW_BYTES};
 use independent::{live_months, Calendar};
+use sindhopul::raw;
 
 use super::pair::{Pair, Request};
 use crate::numbers::beyond;
@@ -26,7 +27,7 @@ fn test_parts(run: &mut Run, calendar: Calendar, bytes: &[u8], register: &[u8], 
     let mut end = ROWS_AT;
     for month in live_months(calendar.first_live_month(day)) {
         let case = format_args!("{case}, part of month {month}");
-        let result = sindhopul::rows(bytes, register, month.into());
+        let result = raw::rows(bytes, register, month.into());
         run.equal(usize::from(result.at), end, case);
         for row in result.part(register).chunks(ROW_BYTES) {
             run.equal(&row[..2], &month.to_le_bytes(), case);

@@ -1,0 +1,165 @@
+//! What the types add to the calls of the C interface.
+
+use std::collections::HashSet;
+use std::error::Error;
+
+use sindhopul::{raw, Calendar, OptionType, Origin, Refusal, Register, Series};
+
+const HEADER: &str = include_str!("../../../include/sindhopul.h");
+
+/// Monday, 16 November 2026, and its month.
+const MONDAY: u16 = 9_816;
+const NOVEMBER: u32 = 322;
+const CLOSE: u32 = 241_337;
+
+fn weekdays() -> Calendar {
+    Calendar::with_sessions((0..36_525).filter(|day| day % 7 >= 2)).expect("weekdays will do")
+}
+
+fn started() -> Register {
+    let mut register = Register::new();
+    let listed = register.start(&weekdays(), MONDAY.into(), CLOSE);
+    listed.expect("the start is accepted");
+    register
+}
+
+#[test]
+fn a_calendar_knows_its_sessions() {
+    let calendar = weekdays();
+    let friday = MONDAY + 4;
+    assert!(calendar.has_session(friday));
+    assert!(!calendar.has_session(friday + 1));
+    assert!(!calendar.has_session(36_525));
+    assert!(!calendar.has_session(u16::MAX));
+    assert_eq!(calendar.next_session(friday), Some(MONDAY + 7));
+    assert_eq!(calendar.next_session(36_523), Some(36_524));
+    assert_eq!(calendar.next_session(36_524), None);
+    assert_eq!(calendar.next_session(u16::MAX), None);
+    assert_eq!(Calendar::new(calendar.as_bytes()), Ok(calendar));
+}
+
+#[test]
+fn a_calendar_ends_with_2099() {
+    let one_too_many = Calendar::with_sessions(0..=36_525);
+    assert_eq!(one_too_many, Err(Refusal::CalendarTail));
+    let far_too_many = Calendar::with_sessions([u16::MAX]);
+    assert_eq!(far_too_many, Err(Refusal::CalendarTail));
+}
+
+#[test]
+fn a_register_tells_its_day() {
+    assert_eq!(Register::new().day(), None);
+    assert_eq!(started().day(), Some(MONDAY));
+    assert_eq!(Register::default(), Register::new());
+}
+
+#[test]
+fn rows_are_the_registers_own_bytes() {
+    let (calendar, register) = (weekdays(), started());
+    let rows = register
+        .rows(&calendar, NOVEMBER)
+        .expect("the month is live");
+    assert!(register
+        .as_bytes()
+        .as_ptr_range()
+        .contains(&rows.as_bytes().as_ptr()));
+    assert_eq!(rows.as_bytes(), &register.as_bytes()[136..][..33 * 8]);
+}
+
+#[test]
+fn rows_come_from_either_end() {
+    let (calendar, register) = (weekdays(), started());
+    let mut rows = register
+        .rows(&calendar, NOVEMBER)
+        .expect("the month is live");
+    assert_eq!(rows.len(), 33);
+    let first = rows.next().expect("there are rows");
+    assert_eq!((first.month, first.price), (322, 2_025));
+    assert_eq!((first.first_day, first.origin), (MONDAY, Origin::Start));
+    let last = rows.next_back().expect("there are rows");
+    assert_eq!(last.price, 2_825);
+    assert_eq!(rows.nth(1).map(|row| row.price), Some(2_075));
+    assert_eq!(rows.len(), 29);
+    assert_eq!(rows.as_bytes().len(), 33 * 8);
+    assert_eq!(rows.by_ref().count(), 29);
+    assert_eq!(rows.next(), None);
+}
+
+/// The causes of the header: SESSION_DAY as SessionDay, with their numbers.
+fn causes_of_header() -> impl Iterator<Item = (String, u16)> {
+    HEADER.lines().filter_map(|line| {
+        let (name, number) = line
+            .trim()
+            .strip_prefix("SINDHOPUL_CAUSE_")?
+            .split_once(" = ")?;
+        let number = number
+            .trim_end_matches(',')
+            .parse()
+            .expect("a cause is a number");
+        let word = |word: &str| word[..1].to_string() + &word[1..].to_lowercase();
+        Some((name.split('_').map(word).collect(), number))
+    })
+}
+
+/// The header's names and numbers, and no two refusals alike.
+#[test]
+fn every_cause_can_be_told() {
+    let refusals = [
+        Refusal::CalendarLength,
+        Refusal::CalendarTail,
+        Refusal::CalendarMonth { month: 317 },
+        Refusal::RegisterLength,
+        Refusal::RegisterForm,
+        Refusal::Running,
+        Refusal::Empty,
+        Refusal::StartDay,
+        Refusal::SessionDay,
+        Refusal::TooLate,
+        Refusal::Close,
+        Refusal::AnnounceMonth,
+        Refusal::AnnouncePrice,
+        Refusal::AnnounceKnown,
+        Refusal::AnnounceFull,
+        Refusal::RowsMonth,
+        Refusal::NameLength,
+        Refusal::NameSeries,
+        Refusal::NameByte { place: 4 },
+    ];
+    let mut texts = HashSet::new();
+    assert_eq!(causes_of_header().count(), refusals.len());
+    for ((name, number), refusal) in causes_of_header().zip(refusals) {
+        assert_eq!(format!("{refusal:?}").split(' ').next(), Some(&*name));
+        assert_eq!(refusal.number(), number);
+        let error: &dyn Error = &refusal;
+        let text = error.to_string();
+        assert!(text.starts_with(&format!("refused ({number}): ")), "{text}");
+        assert!(texts.insert(text));
+    }
+    let month = Refusal::CalendarMonth { month: 317 }.to_string();
+    assert!(month.contains("month 317 (2026-06)"), "{month}");
+}
+
+#[test]
+fn names_are_text() {
+    let series = Series {
+        month: 323,
+        option_type: OptionType::Call,
+        price: 2_400,
+    };
+    let name = series.name().expect("the series is on the grid");
+    assert_eq!(name.as_bytes(), b"OW20L262400");
+    assert_eq!(
+        format!("{name:>12}|{name:?}"),
+        " OW20L262400|\"OW20L262400\""
+    );
+}
+
+/// The types lend what they hold as it is.
+#[test]
+fn the_raw_calls_do_the_same() {
+    let calendar = weekdays();
+    let mut bytes = [0; sindhopul::REGISTER_BYTES];
+    let result = raw::start(calendar.as_bytes(), &mut bytes, MONDAY.into(), CLOSE);
+    assert_eq!(result.number, 0);
+    assert_eq!(Register::from_bytes(&bytes), Ok(started()));
+}

@@ -1,0 +1,51 @@
+#!/bin/sh
+# Installs the library into a folder of its own, then builds and runs the examples as its users would: by pkg-config
+# against the shared object, and against the archive.
+set -eu
+root=$(cd "$(dirname "$0")/.." && pwd)
+cd "$root"
+folder=$(mktemp -d)
+trap 'rm -r "$folder"' EXIT
+prefix=$folder/prefix
+
+make --no-print-directory --silent install PREFIX="$prefix"
+export PKG_CONFIG_PATH="$prefix/lib/pkgconfig" LD_LIBRARY_PATH="$prefix/lib"
+flags=$(pkg-config --cflags --libs sindhopul)
+warnings="-Wall -Wextra -Werror -pedantic -O2"
+
+# shellcheck disable=SC2086  # flags and warnings are several words
+"${CC:-cc}" -std=c11 $warnings examples/c/ladder.c $flags -o "$folder/ladder_c"
+# shellcheck disable=SC2086
+"${CXX:-c++}" -std=c++11 $warnings examples/cpp/ladder.cpp $flags -o "$folder/ladder_cpp"
+# shellcheck disable=SC2086
+"${CC:-cc}" -std=c11 $warnings -I"$prefix/include" examples/c/ladder.c "$prefix/lib/libsindhopul.a" \
+    -o "$folder/ladder_static"
+
+for example in ladder_c ladder_cpp ladder_static; do
+    "$folder/$example" >"$folder/weekdays"
+    diff examples/ladder.txt "$folder/weekdays"
+    "$folder/$example" crates/demo/data/example.calendar >"$folder/calendar"
+    diff examples/ladder.txt "$folder/calendar"
+    # Its own output is no calendar.
+    if "$folder/$example" examples/ladder.txt >"$folder/nothing" 2>"$folder/refusal"; then
+        echo "install: $example took a file that is no calendar" >&2
+        exit 1
+    fi
+    grep -qx 'start refused, cause 11' "$folder/refusal"
+done
+
+# The shared object has what the header declares, and is what the linked examples look for.
+tests/c/symbols.sh "$prefix/lib/libsindhopul.so"
+readelf -d "$folder/ladder_c" >"$folder/needed"
+grep -q 'NEEDED.*\[libsindhopul\.so\.1\]' "$folder/needed"
+
+# DESTDIR goes before the prefix and is not told to anyone.
+make --no-print-directory --silent install DESTDIR="$folder/stage" PREFIX=/opt/wig
+grep -qx 'prefix=/opt/wig' "$folder/stage/opt/wig/lib/pkgconfig/sindhopul.pc"
+cmp include/sindhopul.h "$folder/stage/opt/wig/include/sindhopul.h"
+
+# One version in all places.
+version=$(pkg-config --modversion sindhopul)
+grep -qx "version = \"$version\"" bindings/rust/Cargo.toml
+grep -qx "version = \"$version\"" bindings/python/pyproject.toml
+echo "install: examples in C and C++ run, version $version"
