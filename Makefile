@@ -1,7 +1,8 @@
-# make test: everything that decides whether a change may land. make demo: what the register's ground tells of one day.
-# make bench: every call of the C interface against an independent implementation.
-# make lib: the library, static and shared, in build/lib. make install PREFIX=..: it, its header and its pkg-config file.
-.PHONY: test demo bench lib install
+# make test: everything that decides whether a change may land. make demo: a year's calls up to the session after a
+# quarterly expiry. make bench: every call of the C interface against an independent implementation.
+# make program: the console program, build/sindhopul. make lib: the library, static and shared, in build/lib.
+# make install PREFIX=..: both, with header and pkg-config file. make compare-calendar: Warsaw's days beside QuantLib's.
+.PHONY: test demo bench program lib install compare-calendar
 
 PREFIX = /usr/local
 VERSION = 0.1.0
@@ -10,17 +11,26 @@ test:
 	@bash tests/run
 
 demo:
-	@rt check demo >&2
-	@cd crates/demo/data && ../../../target/bin/demo
+	@bash demo/run
 
 bench:
 	@bash bench/run
 
+compare-calendar:
+	@calendars/compare
+
+program: build/sindhopul
+
 lib: build/lib/libsindhopul.a build/lib/libsindhopul.so
 
 # rt proves the exporting crate anew each time, so it is asked only when something changed.
-target/staticlib/libcapi.a: crates.txt $(shell find crates -name '*.rt' -o -name '*.antt')
-	rt staticlib capi
+target/staticlib/lib%.a: crates.txt $(shell find crates -name '*.rt' -o -name '*.antt')
+	rt staticlib $*
+
+# The C functions behind the files are the kit's.
+build/sindhopul: crates/host/main.c target/staticlib/libhost.a
+	@mkdir -p build
+	$(CC) -O2 -Wall -Wextra -o $@ $^ "$$(dirname "$$(rt doc)")/../lib/libos_c.a"
 
 build/lib/libsindhopul.a: target/staticlib/libcapi.a
 	@mkdir -p build/lib
@@ -35,8 +45,9 @@ build/lib/libsindhopul.so.1: target/staticlib/libcapi.a
 build/lib/libsindhopul.so: build/lib/libsindhopul.so.1
 	ln -sf libsindhopul.so.1 $@
 
-install: lib
-	install -d $(DESTDIR)$(PREFIX)/include $(DESTDIR)$(PREFIX)/lib/pkgconfig
+install: lib program
+	install -d $(DESTDIR)$(PREFIX)/bin $(DESTDIR)$(PREFIX)/include $(DESTDIR)$(PREFIX)/lib/pkgconfig
+	install -m 755 build/sindhopul $(DESTDIR)$(PREFIX)/bin
 	install -m 644 include/sindhopul.h $(DESTDIR)$(PREFIX)/include
 	install -m 644 build/lib/libsindhopul.a $(DESTDIR)$(PREFIX)/lib
 	install -m 755 build/lib/libsindhopul.so.1 $(DESTDIR)$(PREFIX)/lib
@@ -44,5 +55,3 @@ install: lib
 	sed 's|@PREFIX@|$(PREFIX)|; s|@VERSION@|$(VERSION)|' include/sindhopul.pc.in \
 		>$(DESTDIR)$(PREFIX)/lib/pkgconfig/sindhopul.pc
 	chmod 644 $(DESTDIR)$(PREFIX)/lib/pkgconfig/sindhopul.pc
-# The console program, where it was built.
-	if [ -x build/sindhopul ]; then install -D -m 755 build/sindhopul $(DESTDIR)$(PREFIX)/bin/sindhopul; fi

@@ -24,7 +24,7 @@ warnings="-Wall -Wextra -Werror -pedantic -O2"
 for example in ladder_c ladder_cpp ladder_static; do
     "$folder/$example" >"$folder/weekdays"
     diff examples/ladder.txt "$folder/weekdays"
-    "$folder/$example" crates/demo/data/example.calendar >"$folder/calendar"
+    "$folder/$example" crates/sindhopul/data/warsaw.calendar >"$folder/calendar"
     diff examples/ladder.txt "$folder/calendar"
     # Its own output is no calendar.
     if "$folder/$example" examples/ladder.txt >"$folder/nothing" 2>"$folder/refusal"; then

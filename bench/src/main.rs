@@ -9,6 +9,7 @@ mod contest;
 mod names;
 mod registers;
 mod table;
+mod year;
 
 use std::hint::black_box;
 
@@ -32,7 +33,12 @@ fn main() {
     ];
     rows.extend(calls::time_all());
     rows.extend(names::time_all());
+    let replay = year::replay();
+    let sessions_a_second = [&replay.sindhopul, &replay.independent].map(|time| 1e9 / time);
+    rows.push(replay);
     table::print(&rows);
+    let [sindhopul, independent] = sessions_a_second;
+    println!("The year's replay: {sindhopul:.0} sessions a second, {independent:.0} by the independent Rust.");
 }
 
 fn check(case: &'static str, calendar: &[u8]) -> Row {

@@ -57,11 +57,11 @@ Calls on a register are made on a fresh copy each time. What the copying takes b
 Sessions: with so many rows standing and the close as before, so that nothing is
   listed; after the expiry of June 2026 (33 rows leave, 34 come); from 94 rows with
   a close of 6960 points (501 rows come); refused, since the day is not the next.
-Holidays: 1 and 6 January, Good Friday, Easter Monday, 1 and 3 May, Corpus Christi,
-  15 August, 1 and 11 November, 24 to 26 and 31 December, as the registers have them.
+Holidays: those of calendars/warsaw.txt, as the registers have them.
 Empty weeks: the same calendar without the sessions from the second Monday of
   every month to its Friday, so that with the weekends nine days have none.
-Third Fridays only: the one session of a window is at its end.";
+Third Fridays only: the one session of a window is at its end.
+Year's replay: the demo's calls of a year from an empty register, by the session.";
 
 pub fn print(rows: &[Row]) {
     println!("Best of {BATCHES} batches.");

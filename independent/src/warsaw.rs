@@ -19,9 +19,8 @@ fn is_weekday(day: u16) -> bool {
 }
 
 fn holidays(year: u16) -> Vec<u16> {
-    const FIXED: [(u16, u16); 11] = [
+    const FIXED: [(u16, u16); 10] = [
         (1, 1),
-        (1, 6),
         (5, 1),
         (5, 3),
         (8, 15),
@@ -35,11 +34,17 @@ fn holidays(year: u16) -> Vec<u16> {
     let fixed = FIXED.map(|(month_of_year, day_of_month)| day(year, month_of_year, day_of_month));
     let easter = easter_sunday(year);
     let (good_friday, easter_monday, corpus_christi) = (easter - 2, easter + 1, easter + 60);
-    [
-        fixed.as_slice(),
-        &[good_friday, easter_monday, corpus_christi],
-    ]
-    .concat()
+    let movable = [good_friday, easter_monday, corpus_christi];
+    [fixed.as_slice(), &movable, &since_2000(year)].concat()
+}
+
+/// Epiphany, a holiday again since 2011, and the centenary's holiday of 2018.
+fn since_2000(year: u16) -> Vec<u16> {
+    match year {
+        ..=2010 => vec![],
+        2018 => vec![day(year, 1, 6), day(year, 11, 12)],
+        _ => vec![day(year, 1, 6)],
+    }
 }
 
 fn day(year: u16, month_of_year: u16, day_of_month: u16) -> u16 {

@@ -46,11 +46,11 @@ fn expect(run: &mut Run, bytes: &[u8], result: CalendarResult, case: Arguments) 
     compare(run, bytes, case);
 }
 
-/// The demo's calendar is the one that Warsaw's rule makes.
-pub fn test_example(run: &mut Run) {
-    let example = include_bytes!("../../../../crates/demo/data/example.calendar");
-    assert!(example[..] == bytes_of(working_days()), "example.calendar");
-    expect(run, example, PASSED, format_args!("example.calendar"));
+/// The console program's calendar is the one that Warsaw's rule makes.
+pub fn test_warsaw(run: &mut Run) {
+    let warsaw = include_bytes!("../../../../crates/sindhopul/data/warsaw.calendar");
+    assert!(warsaw[..] == bytes_of(working_days()), "warsaw.calendar");
+    expect(run, warsaw, PASSED, format_args!("warsaw.calendar"));
 }
 
 pub fn test_checks(run: &mut Run) {

@@ -24,7 +24,7 @@ type Test = fn(&mut Run);
 const PARTS: [(&str, Test); 13] = [
     ("days and months", dates::test),
     ("calendar checks", calendar::test_checks),
-    ("example calendar", calendar::test_example),
+    ("Warsaw calendar", calendar::test_warsaw),
     ("calendars in use", calendar::test_use),
     ("live months and tiers", calendar::test_live_months),
     ("grids and closes", grid::test),

@@ -1,0 +1,134 @@
+// A line for each call in the journal.
+use crate::Answer;
+use crate::Call;
+
+// Whether this is the announcement that was taken in last.
+fn waits_last(register: &[u8], month: u32, price: u32) -> bool {
+    let waiting = text::halfword(register, 0) / 256 % 256;
+    if waiting == 0 {
+        return false;
+    }
+    let at = (4 + 4 * waiting) as usize;
+    text::halfword(register, at) == month && text::halfword(register, at + 2) == price
+}
+
+// Whether the register stands where the journal's last line left it. A refused call leaves no trace to look for.
+fn stands(register: &[u8], line: &[u8]) -> bool {
+    let mut kinds = [0u8; 1];
+    let mut xs = [0u32; 1];
+    let mut ys = [0u32; 1];
+    let mut told = [1u16; 1];
+    journal::read(line, &mut kinds, &mut xs, &mut ys, &mut told);
+    if told[0] != 0 {
+        return true;
+    }
+    if kinds[0] == journal::ANNOUNCE {
+        return waits_last(register, xs[0], ys[0]);
+    }
+    text::halfword(register, 2) == xs[0]
+}
+
+// Where the last line of whole lines begins.
+fn last_line(lines: &[u8]) -> usize {
+    let n = lines.len();
+    if n == 0 {
+        return 0;
+    }
+    text::behind_last(text::part(lines, 0, n - 1), b'\n')
+}
+
+// Puts the line behind whole lines that end so many bytes behind a place of the file.
+fn follow(
+    fd: i32,
+    path: &[u8],
+    register: &[u8],
+    lines: &[u8],
+    from: i64,
+    line: &[u8],
+    is_accepted: bool,
+) -> bool {
+    let last = text::part(lines, last_line(lines), lines.len());
+    if is_accepted && text::same(last, line) {
+        files::complain(
+            path,
+            b"has this call already, from a run that was cut off before it wrote the register",
+        );
+        return true;
+    }
+    if stands(register, last) {
+        return files::append(fd, path, from, lines.len(), line);
+    }
+    files::complain(
+        path,
+        b"its last call is not the register's: a run was cut off, or one kept no journal
+run that call again, or see sindhopul audit; nothing was changed",
+    );
+    false
+}
+
+// Puts the line behind the last whole line of the journal.
+fn keep(fd: i32, path: &[u8], register: &[u8], line: &[u8], is_accepted: bool) -> bool {
+    let mut space = io::buffer();
+    let tail = files::read_tail(fd, &mut space);
+    let read = tail.read;
+    let end = text::behind_last(text::part(&space, 0, read), b'\n');
+    if end < read {
+        if end == 0 && read == space.len() {
+            files::complain(
+                path,
+                b"its last line has more than 4,096 bytes; end it with a line feed",
+            );
+            return false;
+        }
+        files::complain(
+            path,
+            b"its last line was cut off; it is taken away, since its call was never carried out",
+        );
+    }
+    follow(
+        fd,
+        path,
+        register,
+        text::part(&space, 0, end),
+        tail.from,
+        line,
+        is_accepted,
+    )
+}
+
+fn keep_in(path: &[u8], register: &[u8], line: &[u8], is_accepted: bool) -> bool {
+    let fd = files::open_journal(path);
+    if fd < 0 {
+        return false;
+    }
+    let is_kept = keep(fd, path, register, line, is_accepted);
+    libc::close(fd);
+    is_kept
+}
+
+// Keeps a call in the journal that the arguments name, if they name one.
+pub fn record(register: &[u8], call: Call, answer: Answer) -> bool {
+    if os::arg_count() != 8 {
+        return true;
+    }
+    let mut path = io::buffer();
+    let n = os::arg(7, &mut path);
+    let mut line = [0u8; 128];
+    let end = journal::entry(
+        &mut line,
+        0,
+        call.kind,
+        call.x,
+        call.y,
+        answer.number as u32,
+        answer.first as u32,
+        answer.second as u32,
+        answer.third as u32,
+    );
+    keep_in(
+        &path[..n],
+        register,
+        text::part(&line, 0, end),
+        answer.number == 0,
+    )
+}

@@ -1,0 +1,245 @@
+// Commands that read and answer: check, rows, show, picture, name, why; and the calendar made from its list.
+use dates::DAYS;
+use files::Loaded;
+use holidays::Made;
+use libc::STDERR_FILENO;
+use libc::STDOUT_FILENO;
+use names::Series;
+use terminal::DONE;
+use terminal::PICTURE;
+use terminal::PREVIEW;
+use terminal::REFUSED;
+use terminal::ROWS;
+use terminal::SHOW;
+use terminal::TROUBLE;
+use terminal::refuse;
+use terminal::say;
+use text::Parsed;
+
+fn count_sessions(calendar: &[u8]) -> u32 {
+    let mut sessions: u32 = 0;
+    for day in 0..DAYS {
+        if calendar::has_session(calendar, day) {
+            sessions = sessions % 65536 + 1;
+        }
+    }
+    sessions
+}
+
+fn check_bytes(calendar: &[u8]) -> i32 {
+    let mut out = io::buffer();
+    let checked = calendar::check(calendar);
+    if checked.number != 0 {
+        let length = (calendar.len() % 100000) as u32;
+        let end = wording::calendar_refusal(
+            &mut out,
+            0,
+            length,
+            checked.number as u32,
+            checked.month as u32,
+        );
+        return say(STDERR_FILENO, &out, end, REFUSED);
+    }
+    let sessions = count_sessions(calendar);
+    let form = b"the calendar is accepted: %n sessions from 2000-01-01 to 2099-12-31\n";
+    let end = phrases::fill(&mut out, 0, form, [sessions, 0, 0, 0, 0, 0]);
+    say(STDOUT_FILENO, &out, end, DONE)
+}
+
+pub fn check() -> i32 {
+    let mut space = io::large_buffer();
+    let Loaded::Bytes(n) = terminal::text(2, &mut space) else {
+        return TROUBLE;
+    };
+    check_bytes(text::part(&space, 0, n))
+}
+
+// Makes the calendar of a list and writes it.
+fn make_of(list: &[u8]) -> i32 {
+    let mut calendar = space::calendar();
+    let made = holidays::make(list, &mut calendar);
+    if let Made::Refused(line, reason) = made {
+        let mut out = io::buffer();
+        let end = holidays::refused(&mut out, 0, list, line, reason);
+        return say(STDERR_FILENO, &out, end, TROUBLE);
+    }
+    if !terminal::replace(3, &calendar) {
+        return TROUBLE;
+    }
+    check_bytes(&calendar)
+}
+
+pub fn make_calendar() -> i32 {
+    let mut space = space::list();
+    let Loaded::Bytes(n) = terminal::text(2, &mut space) else {
+        return TROUBLE;
+    };
+    make_of(text::part(&space, 0, n))
+}
+
+// The rows of the six live months, in their order.
+fn rows_of_all(out: &mut [u8], calendar: &[u8], register: &[u8]) -> usize {
+    let mut at: usize = 0;
+    let first = reading::first_live(calendar, register);
+    for place in 0..6 {
+        at = report::rows(
+            out,
+            at,
+            calendar,
+            register,
+            lookup::lookup_live_month(first, place),
+        );
+    }
+    at
+}
+
+fn rows(calendar: &[u8], register: &[u8]) -> i32 {
+    let mut out = space::answer();
+    if os::arg_count() == 4 {
+        let end = rows_of_all(&mut out, calendar, register);
+        return say(STDOUT_FILENO, &out, end, DONE);
+    }
+    let Parsed::Number(month) = terminal::number(4, terminal::MONTH) else {
+        return TROUBLE;
+    };
+    let number = register::rows_number(calendar, register, month);
+    if number != 0 {
+        return refuse(calendar, register, number, 0, month, 0);
+    }
+    let end = report::rows(&mut out, 0, calendar, register, month);
+    say(STDOUT_FILENO, &out, end, DONE)
+}
+
+fn draw(calendar: &[u8], register: &[u8]) -> i32 {
+    let mut out = space::answer();
+    let end = picture::svg(&mut out, 0, calendar, register);
+    if terminal::replace(4, text::part(&out, 0, end)) {
+        return DONE;
+    }
+    TROUBLE
+}
+
+fn refuse_name(number: u16, place: u16) -> i32 {
+    let mut out = io::buffer();
+    let end = wording::name_refusal(&mut out, 0, number as u32, place as u32);
+    say(STDERR_FILENO, &out, end, REFUSED)
+}
+
+fn series_of(i: usize) -> Series {
+    let mut space = io::buffer();
+    let n = os::arg(i, &mut space);
+    names::read(&space[..n])
+}
+
+fn explain(calendar: &[u8], register: &[u8], month: u32, price: u32) -> i32 {
+    let mut out = io::buffer();
+    let end = inquiry::why(&mut out, 0, calendar, register, month, price);
+    say(STDOUT_FILENO, &out, end, DONE)
+}
+
+fn why(calendar: &[u8], register: &[u8]) -> i32 {
+    if os::arg_count() == 5 {
+        let series = series_of(4);
+        if series.number != 0 {
+            return refuse_name(series.number, series.month);
+        }
+        return explain(calendar, register, series.month as u32, series.price as u32);
+    }
+    let Parsed::Number(month) = terminal::number(4, terminal::MONTH) else {
+        return TROUBLE;
+    };
+    let Parsed::Number(price) = terminal::number(5, terminal::PRICE) else {
+        return TROUBLE;
+    };
+    explain(calendar, register, month, price)
+}
+
+fn show(calendar: &[u8], register: &[u8]) -> i32 {
+    let mut out = io::buffer();
+    let end = report::show(&mut out, 0, calendar, register);
+    say(STDOUT_FILENO, &out, end, DONE)
+}
+
+// A question about a register that can be used.
+fn ask(command: u32, calendar: &[u8], register: &[u8]) -> i32 {
+    let first = reading::first_live(calendar, register);
+    let number = register::rows_number(calendar, register, first);
+    if number != 0 {
+        let checked = calendar::check(calendar);
+        return refuse(calendar, register, number, checked.month, 0, 0);
+    }
+    match command {
+        ROWS => rows(calendar, register),
+        SHOW => show(calendar, register),
+        PICTURE => draw(calendar, register),
+        _ => why(calendar, register),
+    }
+}
+
+pub fn with_register(command: u32, calendar: &[u8]) -> i32 {
+    let mut register = space::register();
+    if !terminal::file(3, &mut register) {
+        return TROUBLE;
+    }
+    if command == PREVIEW {
+        return booking::preview(calendar, &register);
+    }
+    ask(command, calendar, &register)
+}
+
+fn read_name() -> i32 {
+    let series = series_of(2);
+    if series.number != 0 {
+        return refuse_name(series.number, series.month);
+    }
+    let mut out = [0u8; 32];
+    let values = [series.month as u32, series.price as u32, 0, 0, 0, 0];
+    if series.kind == 0 {
+        let end = phrases::fill(&mut out, 0, b"%m call %n\n", values);
+        return say(STDOUT_FILENO, &out, end, DONE);
+    }
+    let end = phrases::fill(&mut out, 0, b"%m put %n\n", values);
+    say(STDOUT_FILENO, &out, end, DONE)
+}
+
+// 0 for a call, 1 for a put.
+fn kind_of(i: usize) -> Parsed {
+    let mut space = io::buffer();
+    let n = os::arg(i, &mut space);
+    if text::same(&space[..n], b"call") {
+        return Parsed::Number(0);
+    }
+    if text::same(&space[..n], b"put") {
+        return Parsed::Number(1);
+    }
+    files::complain(&space[..n], b"is neither call nor put");
+    Parsed::Bad
+}
+
+fn write_name(month: u32, kind: u32, price: u32) -> i32 {
+    let mut name = [0u8; 11];
+    let number = names::write(&mut name, month, kind, price);
+    if number != 0 {
+        return refuse_name(number, 0);
+    }
+    let mut out = [0u8; 16];
+    let at = text::put(&mut out, 0, &name);
+    let end = text::put(&mut out, at, b"\n");
+    say(STDOUT_FILENO, &out, end, DONE)
+}
+
+pub fn name() -> i32 {
+    if os::arg_count() == 3 {
+        return read_name();
+    }
+    let Parsed::Number(month) = terminal::number(2, terminal::MONTH) else {
+        return TROUBLE;
+    };
+    let Parsed::Number(kind) = kind_of(3) else {
+        return TROUBLE;
+    };
+    let Parsed::Number(price) = terminal::number(4, terminal::PRICE) else {
+        return TROUBLE;
+    };
+    write_name(month, kind, price)
+}

@@ -1,0 +1,42 @@
+-- `holidays::open` meets its contract; past the end the list's update changes nothing. Assumes nothing.
+use mathlib.Core.Path.{sym}
+use lib.Seq.{set-out}
+use borrow.Author.Needs.{needs}
+use Rattle.holidays.specs.Sessions.{opened}
+use Rattle.holidays.proofs.open.Statement.{statement}
+use Rattle.holidays.proofs.open.Tie as tie
+
+cast-at : tie.Need-cast-at
+cast-at c = search needs
+
+slice-read-calendar : tie.Need-slice-read-calendar
+slice-read-calendar c = search needs
+
+weight-requires : tie.Need-weight-requires
+weight-requires c κs = search needs
+
+slice-write-calendar : tie.Need-slice-write-calendar
+slice-write-calendar c = search needs
+
+same-length : tie.Need-same-length
+same-length c = search needs
+
+returns : tie.Need-returns
+unfolding opened
+returns c = rw (c .weight .ensures)
+
+returns-2 : tie.Need-returns-2
+unfolding opened
+returns-2 c = sym (set-out _ _ _ (c .if1 .left))
+
+pub open-spec : {M : Type 1} → statement M
+open-spec =
+    tie.close
+    (tie.spec
+    cast-at
+    slice-read-calendar
+    weight-requires
+    slice-write-calendar
+    same-length
+    returns
+    returns-2)

@@ -1,0 +1,162 @@
+// A journal of calls: the register made of it again, and the audit of a register against it.
+use files::Loaded;
+use journal::Calls;
+use libc::STDERR_FILENO;
+use libc::STDOUT_FILENO;
+use terminal::AUDIT;
+use terminal::DONE;
+use terminal::REFUSED;
+use terminal::TROUBLE;
+use terminal::refuse;
+use terminal::say;
+
+// The first n numbers, or all where there are fewer.
+fn first_numbers(numbers: &[u32], n: usize) -> &[u32] {
+    if n <= numbers.len() {
+        return &numbers[0..n];
+    }
+    numbers
+}
+
+// The number at a place; past the end the one that tells nothing.
+fn number_at(numbers: &[u16], i: usize) -> u16 {
+    if i < numbers.len() {
+        return numbers[i];
+    }
+    journal::UNTOLD
+}
+
+// The first call whose number is another than the journal tells.
+fn compare(text: &[u8], numbers: &[u16], told: &[u16], n: usize) -> i32 {
+    let first = journal::first_untold(numbers, told, n);
+    if n <= first {
+        return DONE;
+    }
+    let mut out = io::buffer();
+    let line = journal::line_of(text, first);
+    let end = journal::untold(
+        &mut out,
+        0,
+        line,
+        number_at(told, first),
+        number_at(numbers, first),
+    );
+    say(STDERR_FILENO, &out, end, REFUSED)
+}
+
+// Runs the calls from an empty register and compares their numbers with those that the journal tells.
+fn run_calls(
+    text: &[u8],
+    calendar: &[u8],
+    kinds: &[u8],
+    xs: &[u32],
+    ys: &[u32],
+    told: &[u16],
+    register: &mut [u8],
+) -> i32 {
+    let mut numbers = space::numbers();
+    replay(calendar, kinds, xs, ys, register, &mut numbers);
+    compare(text, &numbers, told, kinds.len())
+}
+
+// `history::replay` with as many numbers as there are calls. Its contract is the closing property of demand 3.
+fn replay(
+    calendar: &[u8],
+    kinds: &[u8],
+    xs: &[u32],
+    ys: &[u32],
+    register: &mut [u8],
+    numbers: &mut [u16],
+) {
+    let n = kinds.len();
+    if n <= numbers.len() {
+        history::replay(calendar, kinds, xs, ys, register, &mut numbers[0..n]);
+    }
+}
+
+// The register that the text of a journal gives.
+fn rebuild(text: &[u8], calendar: &[u8], register: &mut [u8]) -> i32 {
+    let mut kinds = space::kinds();
+    let mut xs = space::values();
+    let mut ys = space::values();
+    let mut told = space::numbers();
+    let calls = journal::read(text, &mut kinds, &mut xs, &mut ys, &mut told);
+    match calls {
+        Calls::Taken(n, is_cut) => {
+            if is_cut {
+                files::complain(b"the journal", b"its last line was cut off; it is left out");
+            }
+            let xs = first_numbers(&xs, n);
+            let ys = first_numbers(&ys, n);
+            run_calls(
+                text,
+                calendar,
+                text::part(&kinds, 0, n),
+                xs,
+                ys,
+                &told,
+                register,
+            )
+        }
+        Calls::Refused(line, reason) => {
+            let mut out = io::buffer();
+            let end = journal::complaint(&mut out, 0, text, line, reason);
+            say(STDERR_FILENO, &out, end, TROUBLE)
+        }
+    }
+}
+
+// The register that the journal of argument 3 gives.
+fn rebuild_from_file(calendar: &[u8], register: &mut [u8]) -> i32 {
+    let mut space = space::journal();
+    let Loaded::Bytes(n) = terminal::text(3, &mut space) else {
+        return TROUBLE;
+    };
+    rebuild(text::part(&space, 0, n), calendar, register)
+}
+
+fn write_again(calendar: &[u8], register: &[u8]) -> i32 {
+    if !terminal::replace(4, register) {
+        return TROUBLE;
+    }
+    let mut out = io::buffer();
+    let end = report::show(&mut out, 0, calendar, register);
+    say(STDOUT_FILENO, &out, end, DONE)
+}
+
+fn compare_files(register: &[u8]) -> i32 {
+    let mut given = space::register();
+    if !terminal::file(4, &mut given) {
+        return TROUBLE;
+    }
+    let mut out = io::buffer();
+    if text::same(&given, register) {
+        let end = text::put(
+            &mut out,
+            0,
+            b"the register is exactly what its journal gives\n",
+        );
+        return say(STDOUT_FILENO, &out, end, DONE);
+    }
+    let at = text::put(&mut out, 0, b"the register is not what its journal gives\n");
+    let end = audit::difference(&mut out, at, register, &given);
+    say(STDERR_FILENO, &out, end, REFUSED)
+}
+
+// replay and audit: both make the register of the journal.
+pub fn run(command: u32, calendar: &[u8]) -> i32 {
+    let mut register = space::register();
+    // a calendar that is refused would refuse every call
+    let checked = calendar::check(calendar);
+    if checked.number != 0 {
+        return refuse(calendar, &register, checked.number, checked.month, 0, 0);
+    }
+    let status = rebuild_from_file(calendar, &mut register);
+    if status != DONE {
+        return status;
+    }
+    if command == AUDIT {
+        return compare_files(&register);
+    }
+    write_again(calendar, &register)
+}

@@ -1,0 +1,60 @@
+// Zeros for whole files and journals. Each contract tells the length: a caller's proof that counted the zeros of an array
+// would take by their number.
+ghost use mathlib.Core.Path.{_≡_};
+ghost use lib.ListN.{length};
+
+// A calendar.
+pub fn calendar() -> [u8; 4566]
+    ensures { λ r. ⌜ 4566 ≡ length r ⌝ }
+{
+    [0; 4566]
+}
+
+// A register.
+pub fn register() -> [u8; 11264]
+    ensures { λ r. ⌜ 11264 ≡ length r ⌝ }
+{
+    [0; 11264]
+}
+
+// The longest answer: every row of a full register in words, or drawn.
+pub fn answer() -> [u8; 262144]
+    ensures { λ r. ⌜ 262144 ≡ length r ⌝ }
+{
+    [0; 262144]
+}
+
+// A list of days: a hundred bytes for each of a century's weekdays without session, ten times over.
+pub fn list() -> [u8; 1048576]
+    ensures { λ r. ⌜ 1048576 ≡ length r ⌝ }
+{
+    [0; 1048576]
+}
+
+// The text of a journal.
+pub fn journal() -> [u8; 4194304]
+    ensures { λ r. ⌜ 4194304 ≡ length r ⌝ }
+{
+    [0; 4194304]
+}
+
+// The kinds of a journal's calls: a century of sessions and many announcements.
+pub fn kinds() -> [u8; 65536]
+    ensures { λ r. ⌜ 65536 ≡ length r ⌝ }
+{
+    [0; 65536]
+}
+
+// One of their two arguments.
+pub fn values() -> [u32; 65536]
+    ensures { λ r. ⌜ 65536 ≡ length r ⌝ }
+{
+    [0; 65536]
+}
+
+// Their numbers.
+pub fn numbers() -> [u16; 65536]
+    ensures { λ r. ⌜ 65536 ≡ length r ⌝ }
+{
+    [0; 65536]
+}

@@ -1,0 +1,29 @@
+// Text on slices, as the console program writes and reads it: days, months, closes and numbers, both ways.
+//
+// What is written goes into a buffer that the caller lends, behind its first `at` bytes; each function answers where the next
+// byte goes. Where the buffer is full the rest is left out, so that the answer is its length.
+mod read;
+mod scan;
+mod write;
+
+pub use read::Parsed;
+pub use read::read_close;
+pub use read::read_day;
+pub use read::read_month;
+pub use read::read_number;
+pub use scan::behind_last;
+pub use scan::find;
+pub use scan::halfword;
+pub use scan::line_end;
+pub use scan::part;
+pub use scan::same;
+pub use scan::word_end;
+pub use scan::word_start;
+pub use write::column;
+pub use write::date;
+pub use write::digits;
+pub use write::month;
+pub use write::number;
+pub use write::points;
+pub use write::put;
+pub use write::put_byte;

@@ -1,0 +1,44 @@
+// Every refusal in words: first the cause with its number, then its own values, then what to do next.
+mod forms;
+mod opening;
+mod parts;
+mod series;
+mod sessions;
+mod strikes;
+
+pub use parts::bands;
+pub use parts::live_months;
+pub use parts::neighbours;
+pub use series::name_refusal;
+
+// A calendar's refusal, 11 to 13: `length` is the calendar's, or as much of it as was read; `month` stands beside 13.
+pub fn calendar_refusal(out: &mut [u8], at: usize, length: u32, number: u32, month: u32) -> usize {
+    opening::refusal(out, at, number, length, month, 0, 0)
+}
+
+// A register call's refusal, 11 to 26: its number, the first value beside it, and the call's two arguments.
+pub fn refusal(
+    out: &mut [u8],
+    at: usize,
+    calendar: &[u8],
+    register: &[u8],
+    number: u32,
+    value: u32,
+    x: u32,
+    y: u32,
+) -> usize {
+    let stands = reading::day(register);
+    let next = lookup::lookup_next_session(calendar, stands);
+    if number <= 17 {
+        let length = if number <= 13 {
+            opening::length(calendar)
+        } else {
+            opening::length(register)
+        };
+        return opening::refusal(out, at, number, length, value, stands, next);
+    }
+    if number <= 21 {
+        return sessions::refusal(out, at, calendar, register, number, stands, next, x, y);
+    }
+    strikes::refusal(out, at, calendar, register, number, stands, next, x, y)
+}

@@ -1,0 +1,117 @@
+// Causes 18 to 21: the day and the close of a start or a session. 20 is also an announcement's.
+use crate::forms::tell;
+use dates::DAYS;
+use dates::MONTHS;
+use grid::HIGHEST_CLOSE;
+use grid::LOWEST_CLOSE;
+use register::LAST_FIRST_MONTH;
+
+const LAST_DAY: u32 = DAYS as u32 - 1;
+
+// 18: the day asked for and the next session after it.
+fn no_session(day: u32, after: u32) -> u8 {
+    if LAST_DAY < day {
+        b'p'
+    } else if LAST_DAY < after {
+        b'n'
+    } else {
+        b's'
+    }
+}
+
+// 19.
+fn out_of_order(day: u32, stands: u32, next: u32) -> u8 {
+    if day < stands {
+        b'b'
+    } else if day == stands {
+        b'd'
+    } else if next < day {
+        b'o'
+    } else {
+        b'g'
+    }
+}
+
+// 21. A close that would be taken in points was given without the point.
+fn close_outside(close: u32) -> u8 {
+    if close <= HIGHEST_CLOSE / 100 {
+        if LOWEST_CLOSE <= 100 * close {
+            return b'w';
+        }
+    }
+    b'c'
+}
+
+fn letter(number: u32, stands: u32, next: u32, after: u32, first: u32, x: u32, y: u32) -> u8 {
+    match number {
+        18 => no_session(x, after),
+        19 => out_of_order(x, stands, next),
+        20 => if first < MONTHS as u32 { b'f' } else { b'l' },
+        _ => close_outside(y),
+    }
+}
+
+pub fn refusal(
+    out: &mut [u8],
+    at: usize,
+    calendar: &[u8],
+    register: &[u8],
+    number: u32,
+    stands: u32,
+    next: u32,
+    x: u32,
+    y: u32,
+) -> usize {
+    let after = lookup::lookup_next_session(calendar, x);
+    // 20: a start is asked about its own day, any other call about the next session.
+    let day = if reading::row_count(register) == 0 {
+        x
+    } else {
+        next
+    };
+    let first = lookup::lookup_first_live(calendar, day);
+    let letter = letter(number, stands, next, after, first, x, y);
+    let values = match letter {
+        b'p' => [x, LAST_DAY, 0, 0, 0, 0],
+        b'n' | b's' => [x, after, 0, 0, 0, 0],
+        b'f' | b'l' => [LAST_FIRST_MONTH as u32, day, first, 0, 0, 0],
+        b'w' | b'c' => [y, LOWEST_CLOSE, HIGHEST_CLOSE, y, 0, 0],
+        _ => [x, stands, next, next, 0, 0],
+    };
+    tell(
+        out,
+        at,
+        b"|prefused, cause 18: %d is past %d, the last day\n  \
+          start on a session day up to then\n\
+          |nrefused, cause 18: %d has no session, nor has any day after it\n  \
+          start on an earlier day\n\
+          |srefused, cause 18: %d has no session\n  \
+          start on a session day; the next after it is %d\n\
+          |brefused, cause 19: %d is not the next session day\n  \
+          the register stands at %d; the next session is %d\n  \
+          the day asked for lies before that: already done, or before the start; look at the journal\n\
+          |drefused, cause 19: %d is not the next session day\n  \
+          the register stands at %d; the next session is %d\n  \
+          that session is already done; sindhopul show CALENDAR REGISTER tells what it left\n\
+          |orefused, cause 19: %d is not the next session day\n  \
+          the register stands at %d; the next session is %d\n  \
+          left out: the session of %d at least\n  \
+          run the sessions in order, or look at the journal for one that was left out\n\
+          |grefused, cause 19: %d is not the next session day\n  \
+          the register stands at %d; the next session is %d\n  \
+          the day asked for has no session; give %d\n\
+          |frefused, cause 20: the last month that may be the first live one is March 2099, month %n\n  \
+          on %d the first live one is %m\n  \
+          the six live months would run past 2099; nothing more can be listed\n\
+          |lrefused, cause 20: the last month that may be the first live one is March 2099, month %n\n  \
+          the six live months would run past 2099; nothing more can be listed\n\
+          |wrefused, cause 21: the close %c is outside the range\n  \
+          closes go from %c to %c\n  \
+          a number without a point is in hundredths: write %n.00\n\
+          |crefused, cause 21: the close %c is outside the range\n  \
+          closes go from %c to %c\n  \
+          look the close up again\n",
+        letter,
+        values,
+    )
+}

@@ -1,0 +1,92 @@
+#!/bin/sh
+# Kills a session at each of its system calls in turn, before the call and after it. Whenever it dies, the register is
+# the old one or the new one to the byte and the journal has lost nothing; the same command then completes the work.
+# usage: tests/console/kill.sh SINDHOPUL
+set -eu
+here=$(cd "$(dirname "$0")" && pwd)
+program=$(realpath "$1")
+work=$(mktemp -d)
+trap 'rm -r "$work"' EXIT
+"${CC:-cc}" -std=c11 -Wall -Wextra -Werror -pedantic -O2 "$here/kill_at.c" -o "$work/kill_at"
+
+fail() {
+    echo "kill: at stop $n: $*" >&2
+    ls -l "$work/desk" >&2
+    exit 1
+}
+
+session() {
+    "$@" "$program" session calendar register 2026-11-23 3480.25 --journal journal
+}
+
+# A session after an expiry with an announcement waiting: rows leave, rows come, places are cleared.
+n=0
+mkdir "$work/old" "$work/desk"
+cd "$work/old"
+"$program" calendar "$here/../../calendars/warsaw.txt" calendar >/dev/null
+"$program" start calendar register 2026-11-20 2413.37 --journal journal >/dev/null
+"$program" announce calendar register 2026-12 3925 --journal journal >/dev/null
+cp -R "$work/old" "$work/new"
+cd "$work/new"
+session >/dev/null
+old_size=$(wc -c <"$work/old/journal")
+new_size=$(wc -c <journal)
+if cmp -s register "$work/old/register"; then fail "the session changed no register"; fi
+head -c "$old_size" journal | cmp -s - "$work/old/journal" || fail "the session changed the old journal"
+[ "$(tail -c +$((old_size + 1)) journal | wc -l)" -eq 1 ] || fail "the session added no single line"
+
+old=0 new=0 locks=0 torn=0
+cd "$work/desk"
+while :; do
+    n=$((n + 1))
+    rm -f ./*
+    cp "$work/old/"* .
+    status=0
+    session "$work/kill_at" "$n" >/dev/null 2>&1 || status=$?
+    case $status in
+    0) ;;
+    1) break ;;
+    *) fail "kill_at ended with $status" ;;
+    esac
+
+    if cmp -s register "$work/old/register"; then
+        old=$((old + 1))
+    elif cmp -s register "$work/new/register"; then
+        new=$((new + 1))
+    else
+        fail "the register is neither the old one nor the new one"
+    fi
+    size=$(wc -c <journal)
+    [ "$size" -ge "$old_size" ] || fail "the journal has lost something"
+    head -c "$size" "$work/new/journal" | cmp -s - journal || fail "the journal has more than the one line"
+    if [ "$size" -gt "$old_size" ] && [ "$size" -lt "$new_size" ]; then torn=$((torn + 1)); fi
+
+    status=0
+    session >/dev/null 2>"$work/message" || status=$?
+    if [ -e register.new ] && grep -q 'register\.new' "$work/message"; then
+        [ "$status" -eq 2 ] || fail "a leftover lock ended with $status"
+        locks=$((locks + 1))
+        rm register.new
+        status=0
+        session >/dev/null 2>"$work/message" || status=$?
+    fi
+    case $status in
+    0) cp journal "$work/kept" ;;
+    # Where the killed run had done the work the call is refused, and the journal tells that too.
+    1)
+        tail -n 1 journal | grep -q ' = 19$' || fail "the same command was refused and the journal has no word of it"
+        head -n -1 journal >"$work/kept"
+        ;;
+    *) fail "the same command then ended with $status: $(cat "$work/message")" ;;
+    esac
+    cmp -s register "$work/new/register" || fail "the same command then left another register"
+    cmp -s "$work/kept" "$work/new/journal" || fail "the same command then left another journal"
+    [ "$(echo *)" = "calendar journal register" ] || fail "other files are left"
+done
+
+# The run that was not killed is the whole command: past its last stop nothing is untried.
+cmp -s register "$work/new/register" || fail "the whole run left another register"
+cmp -s journal "$work/new/journal" || fail "the whole run left another journal"
+[ "$old" -gt 0 ] || fail "no kill left the old register"
+[ "$new" -gt 0 ] || fail "no kill left the new register"
+echo "kill: $((n - 1)) kills, $old left the old register, $new the new one; $locks left a lock, $torn part of a line"
