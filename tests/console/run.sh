@@ -149,7 +149,8 @@ same year.svg "$root/docs/ladders.svg"
 expect 0 '' audit calendar diary year
 expect 0 '' replay calendar diary again
 same again year
-rm again year year.svg diary
+mv year "$work/year"
+rm again year.svg diary
 
 # Every cause.
 head -c 4565 calendar >short
@@ -181,7 +182,12 @@ refused 26 '.' rows calendar register 2027-02
 refused 27 '.' name OW20L26240
 refused 28 '.' name 2026-12 call 2401
 refused 29 '.' name OW20Z262400
-rm short tail none damaged empty full
+
+# What is listed, what is not and what would bring it in, against the same told apart from the program.
+expect 0 '' start calendar expiring 2026-11-20 2413.37
+expect 0 '' start calendar late 2099-03-17 2413.37
+"$here/why.py" "$program" calendar register full expiring late "$work/year"
+rm short tail none damaged empty full expiring late
 
 # Files that cannot be had, or have not their length.
 head -c 11263 register >clipped
