@@ -23,8 +23,10 @@ program: build/sindhopul
 
 lib: build/lib/libsindhopul.a build/lib/libsindhopul.so
 
-# rt proves the exporting crate anew each time, so it is asked only when something changed.
+# rt proves the exporting crate anew each time, so it is asked only when something changed; a check proves two crates at a
+# time, where making the archive proves one after the other.
 target/staticlib/lib%.a: crates.txt $(shell find crates -name '*.rt' -o -name '*.antt')
+	rt check $*
 	rt staticlib $*
 
 # The C functions behind the files are the kit's.

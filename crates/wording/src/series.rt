@@ -34,8 +34,8 @@ pub fn name_refusal(out: &mut [u8], at: usize, number: u32, place: u32) -> usize
         b"|nrefused, cause 27: a name has %n characters\n  \
           OW20, a letter, two digits of the year, four of the price: OW20L262400 is the call of 2026-12 at 2400\n\
           |srefused, cause 28: there is no such series\n  \
-          its price is on the grid of tier N: 5 to 475 by 5, 480 to 990 by 10, 1000 to 9975 by 25\n  \
-          its month is one up to %m, its type call or put\n\
+          its price must be on the grid of tier N: 5 to 475 by 5, 480 to 990 by 10, 1000 to 9975 by 25\n  \
+          its month must be one up to %m, its type call or put\n\
           |orefused, cause 29: character %n of the name cannot stand there\n  \
           the first four are OW20, in capitals\n  \
           OW20, a letter, two digits of the year, four of the price: OW20L262400 is the call of 2026-12 at 2400\n\
