@@ -30,7 +30,7 @@ target/staticlib/lib%.a: crates.txt $(shell find crates -name '*.rt' -o -name '*
 	rt staticlib $*
 
 # The C functions behind the files are the kit's.
-build/sindhopul: crates/host/main.c target/staticlib/libhost.a
+build/sindhopul: crates/console/main.c target/staticlib/libconsole.a
 	@mkdir -p build
 	$(CC) -O2 -Wall -Wextra -o $@ $^ "$$(dirname "$$(rt doc)")/../lib/libos_c.a"
 

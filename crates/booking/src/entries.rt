@@ -1,6 +1,7 @@
 // A line for each call in the journal.
 use crate::Answer;
 use crate::Call;
+use files::Tail;
 
 // Whether this is the announcement that was taken in last.
 fn waits_last(register: &[u8], month: u32, price: u32) -> bool {
@@ -37,13 +38,25 @@ fn last_line(lines: &[u8]) -> usize {
     text::behind_last(text::part(lines, 0, n - 1), b'\n')
 }
 
-// Puts the line behind whole lines that end so many bytes behind a place of the file.
+// Takes away what stands behind the whole lines: a line that was cut off.
+fn cut_off(fd: i32, path: &[u8], tail: Tail, end: usize) -> bool {
+    if end == tail.read {
+        return true;
+    }
+    files::complain(
+        path,
+        b"its last line was cut off; it is taken away, since its call was never carried out",
+    );
+    files::cut(fd, path, tail.from, end)
+}
+
+// Puts the line behind the whole lines with which the journal ends.
 fn follow(
     fd: i32,
     path: &[u8],
     register: &[u8],
     lines: &[u8],
-    from: i64,
+    tail: Tail,
     line: &[u8],
     is_accepted: bool,
 ) -> bool {
@@ -56,7 +69,7 @@ fn follow(
         return true;
     }
     if stands(register, last) {
-        return files::append(fd, path, from, lines.len(), line);
+        return cut_off(fd, path, tail, lines.len()) && files::append(fd, path, line);
     }
     files::complain(
         path,
@@ -69,31 +82,20 @@ run that call again, or see sindhopul audit; nothing was changed",
 // Puts the line behind the last whole line of the journal.
 fn keep(fd: i32, path: &[u8], register: &[u8], line: &[u8], is_accepted: bool) -> bool {
     let mut space = io::buffer();
-    let tail = files::read_tail(fd, &mut space);
-    let read = tail.read;
-    let end = text::behind_last(text::part(&space, 0, read), b'\n');
-    if end < read {
-        if end == 0 && read == space.len() {
-            files::complain(
-                path,
-                b"its last line has more than 4,096 bytes; end it with a line feed",
-            );
-            return false;
-        }
+    let tail = files::read_tail(fd, path, &mut space);
+    if tail.from < 0 {
+        return false;
+    }
+    let end = text::behind_last(text::part(&space, 0, tail.read), b'\n');
+    if end == 0 && tail.read == space.len() {
         files::complain(
             path,
-            b"its last line was cut off; it is taken away, since its call was never carried out",
+            b"its last line has more than 4,096 bytes; end it with a line feed",
         );
+        return false;
     }
-    follow(
-        fd,
-        path,
-        register,
-        text::part(&space, 0, end),
-        tail.from,
-        line,
-        is_accepted,
-    )
+    let lines = text::part(&space, 0, end);
+    follow(fd, path, register, lines, tail, line, is_accepted)
 }
 
 fn keep_in(path: &[u8], register: &[u8], line: &[u8], is_accepted: bool) -> bool {

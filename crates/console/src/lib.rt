@@ -1,15 +1,27 @@
 // The console program as a library: `run` does what the program's arguments ask and answers its exit status.
-mod answers;
+mod restore;
 
+use help::CALENDAR;
+use help::CHECK;
+use help::COMMANDS;
+use help::NAME;
+use help::PREVIEW;
+use help::REPLAY;
 use libc::STDERR_FILENO;
 use libc::STDOUT_FILENO;
-use terminal::CALENDAR;
-use terminal::CHECK;
-use terminal::COMMANDS;
 use terminal::DONE;
-use terminal::NAME;
-use terminal::REPLAY;
 use terminal::TROUBLE;
+
+fn with_register(command: u32, calendar: &[u8]) -> i32 {
+    let mut register = space::register();
+    if !terminal::file(3, &mut register) {
+        return TROUBLE;
+    }
+    if command == PREVIEW {
+        return booking::preview(calendar, &register);
+    }
+    answers::ask(command, calendar, &register)
+}
 
 fn with_calendar(command: u32) -> i32 {
     let mut calendar = space::calendar();
@@ -20,7 +32,7 @@ fn with_calendar(command: u32) -> i32 {
         return booking::make((command % 3) as u8, &calendar);
     }
     if command < REPLAY {
-        return answers::with_register(command, &calendar);
+        return with_register(command, &calendar);
     }
     restore::run(command, &calendar)
 }
@@ -46,4 +58,10 @@ pub fn run() -> i32 {
         return help::say(STDERR_FILENO, command, TROUBLE);
     }
     act(command)
+}
+
+// The same for a main in C, which passes the exit status on.
+#[no_mangle]
+pub extern "C" fn sindhopul_console() -> i32 {
+    run()
 }

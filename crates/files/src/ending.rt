@@ -1,10 +1,12 @@
 // A journal's end: its last line, and a line more.
+use crate::complain;
 use crate::whole::sync_folder;
 
 // How far back from its end the last line of a journal is looked for.
 const REACH: i64 = -4096;
 
-// The end of a journal: from this place of the file on, so many bytes, which stand in the buffer.
+// The end of a journal: from this place of the file on, so many bytes, which stand in the buffer. The place is below 0
+// where they could not be read up to the last one.
 pub struct Tail {
     pub from: i64,
     pub read: usize,
@@ -35,34 +37,39 @@ pub fn open_journal(path: &[u8]) -> i32 {
 }
 
 // The last bytes of a journal, put at the start of the buffer.
-pub fn read_tail(fd: i32, buffer: &mut [u8]) -> Tail {
+pub fn read_tail(fd: i32, path: &[u8], buffer: &mut [u8]) -> Tail {
+    let end = libc::lseek(fd, 0, libc::SEEK_END);
     let mut from = libc::lseek(fd, REACH, libc::SEEK_END);
     if from < 0 {
         // the journal is shorter than that
         from = libc::lseek(fd, 0, libc::SEEK_SET);
     }
+    let read = io::read_full(fd, buffer);
+    if from < 0 || libc::lseek(fd, 0, libc::SEEK_CUR) != end {
+        // what was not read would be taken for a line that was cut off
+        complain(path, b"its end cannot be read; nothing was changed");
+        from = -1;
+    }
     Tail {
         from: from,
-        read: io::read_full(fd, buffer),
+        read: read,
     }
 }
 
-// Sets the position so many bytes behind a place of the file and answers it, or -1.
-fn seek(fd: i32, from: i64, bytes: usize) -> i64 {
-    if 4096 < bytes {
-        return -1;
-    }
+// Ends the journal so many bytes behind a place.
+pub fn cut(fd: i32, path: &[u8], from: i64, bytes: usize) -> bool {
     libc::lseek(fd, from, libc::SEEK_SET);
-    libc::lseek(fd, bytes as i64, libc::SEEK_CUR)
+    let at = libc::lseek(fd, (bytes % 65536) as i64, libc::SEEK_CUR);
+    if libc::ftruncate(fd, at) == 0 {
+        return true;
+    }
+    os::fail(path);
+    false
 }
 
-// Puts a line so many bytes behind a place of a journal, in place of all that follows, and brings it to the disk.
-pub fn append(fd: i32, path: &[u8], from: i64, bytes: usize, line: &[u8]) -> bool {
-    let at = seek(fd, from, bytes);
-    if libc::ftruncate(fd, at) != 0 {
-        os::fail(path);
-        return false;
-    }
+// Puts a line behind all that the journal has and brings it to the disk.
+pub fn append(fd: i32, path: &[u8], line: &[u8]) -> bool {
+    let at = libc::lseek(fd, 0, libc::SEEK_END);
     if !io::write_all(fd, line) {
         os::fail(path);
         // a part of a line is worse than none

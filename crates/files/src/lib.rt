@@ -8,6 +8,7 @@ mod whole;
 
 pub use ending::Tail;
 pub use ending::append;
+pub use ending::cut;
 pub use ending::open_journal;
 pub use ending::read_tail;
 use libc::STDERR_FILENO;

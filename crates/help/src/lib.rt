@@ -1,4 +1,37 @@
-// What the program says of itself, one text a command.
+// The commands of the program, and what it says of itself, one text a command.
+
+// The commands by number. start, session and announce have the numbers of a journal's calls.
+pub const START: u32 = 0;
+
+pub const SESSION: u32 = 1;
+
+pub const ANNOUNCE: u32 = 2;
+
+pub const CALENDAR: u32 = 3;
+
+pub const CHECK: u32 = 4;
+
+pub const PREVIEW: u32 = 5;
+
+pub const ROWS: u32 = 6;
+
+pub const SHOW: u32 = 7;
+
+pub const PICTURE: u32 = 8;
+
+pub const NAME: u32 = 9;
+
+pub const WHY: u32 = 10;
+
+pub const REPLAY: u32 = 11;
+
+pub const AUDIT: u32 = 12;
+
+pub const COMMANDS: u32 = 13;
+
+// Their names in this order, nine bytes each with the blanks behind them.
+pub const NAMES: [u8; 117] =
+    *b"start    session  announce calendar check    preview  rows     show     picture  name     why      replay   audit    ";
 
 fn overview(fd: i32) -> bool {
     io::write_all(
@@ -178,25 +211,25 @@ Exit status 1 where they differ.
 
 fn write_text(fd: i32, command: u32) -> bool {
     match command {
-        0 => start(fd),
-        1 => session(fd),
-        2 => announce(fd),
-        3 => calendar(fd),
-        4 => check(fd),
-        5 => preview(fd),
-        6 => rows(fd),
+        START => start(fd),
+        SESSION => session(fd),
+        ANNOUNCE => announce(fd),
+        CALENDAR => calendar(fd),
+        CHECK => check(fd),
+        PREVIEW => preview(fd),
+        ROWS => rows(fd),
         _ => write_more(fd, command),
     }
 }
 
 fn write_more(fd: i32, command: u32) -> bool {
     match command {
-        7 => show(fd),
-        8 => picture(fd),
-        9 => name(fd),
-        10 => why(fd),
-        11 => replay(fd),
-        12 => audit(fd),
+        SHOW => show(fd),
+        PICTURE => picture(fd),
+        NAME => name(fd),
+        WHY => why(fd),
+        REPLAY => replay(fd),
+        AUDIT => audit(fd),
         _ => overview(fd),
     }
 }

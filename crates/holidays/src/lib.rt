@@ -1,6 +1,7 @@
 // A calendar's bytes from a list of weekdays without session and of extra sessions, as the exchange publishes them.
 use calendar::CALENDAR_LENGTH;
 use dates::DAYS;
+use text::END_YEAR;
 use text::Parsed;
 ghost use mathlib.Core.Path.{_≡_};
 ghost use mathlib.Core.Bool.{_&&_};
@@ -10,9 +11,6 @@ ghost use lib.ListN.{length, replicate};
 ghost use Rattle.dates.specs.Months.{dayCount};
 ghost use Rattle.calendar.specs.Calendar.{calendarLength, session};
 ghost use Rattle.holidays.specs.Sessions.{weekday, opened, closed};
-
-// The first year past the calendar.
-const END_YEAR: u32 = 2100;
 
 // Why a line is refused.
 pub enum Reason {

@@ -9,7 +9,8 @@ ghost use Rattle.base.specs.Search.{firstIn};
 ghost use Rattle.base.specs.Lists.{within};
 ghost use Rattle.names.specs.Names.{nameLength, nameOf, noSeries, writeCause, written, valueFrom, canStand, misplaced, monthRead, kindRead, priceRead, readOf};
 
-const LENGTH: u16 = 11;
+// How many bytes a name has.
+pub const LENGTH: u16 = 11;
 
 const PREFIX: [u8; 4] = [b'O', b'W', b'2', b'0'];
 

@@ -1,5 +1,5 @@
 // The console program as rt runs it, for its stored output. Its exit status is always 0: the program that people use is
-// host/main.c over the same library.
+// console/main.c over the same library.
 fn main() {
     console::run();
 }

@@ -1,6 +1,20 @@
 // The program's arguments: the command, days, closes, months, prices, and the files that they name.
-use crate::COMMANDS;
 use files::Loaded;
+use help::ANNOUNCE;
+use help::AUDIT;
+use help::CALENDAR;
+use help::CHECK;
+use help::COMMANDS;
+use help::NAME;
+use help::NAMES;
+use help::PICTURE;
+use help::PREVIEW;
+use help::REPLAY;
+use help::ROWS;
+use help::SESSION;
+use help::SHOW;
+use help::START;
+use help::WHY;
 use text::Parsed;
 
 // What a number is read as.
@@ -35,10 +49,7 @@ fn place_of(list: &[u8], word: &[u8]) -> u32 {
 pub fn command() -> u32 {
     let mut space = io::buffer();
     let n = os::arg(1, &mut space);
-    let place = place_of(
-        b"start    session  announce calendar check    preview  rows     show     picture  name     why      replay   audit    ",
-        &space[..n],
-    );
+    let place = place_of(&NAMES, &space[..n]);
     if place == COMMANDS {
         files::complain(&space[..n], b"there is no such command");
     }
@@ -67,14 +78,14 @@ fn name_journal() -> bool {
 pub fn fit(command: u32) -> bool {
     let words = os::arg_count();
     match command {
-        0 | 1 | 2 => words == 6 || words == 8 && name_journal(),
-        3 | 7 => words == 4,
-        4 => words == 3,
-        5 => words == 6,
-        6 => words == 4 || words == 5,
-        8 | 11 | 12 => words == 5,
-        9 => words == 3 || words == 5,
-        10 => words == 5 || words == 6,
+        START | SESSION | ANNOUNCE => words == 6 || words == 8 && name_journal(),
+        CALENDAR | SHOW => words == 4,
+        CHECK => words == 3,
+        PREVIEW => words == 6,
+        ROWS => words == 4 || words == 5,
+        PICTURE | REPLAY | AUDIT => words == 5,
+        NAME => words == 3 || words == 5,
+        WHY => words == 5 || words == 6,
         _ => false,
     }
 }

@@ -23,27 +23,6 @@ pub const REFUSED: i32 = 1;
 
 pub const TROUBLE: i32 = 2;
 
-// The commands by number. start, session and announce have the numbers of a journal's calls.
-pub const CALENDAR: u32 = 3;
-
-pub const CHECK: u32 = 4;
-
-pub const PREVIEW: u32 = 5;
-
-pub const ROWS: u32 = 6;
-
-pub const SHOW: u32 = 7;
-
-pub const PICTURE: u32 = 8;
-
-pub const NAME: u32 = 9;
-
-pub const REPLAY: u32 = 11;
-
-pub const AUDIT: u32 = 12;
-
-pub const COMMANDS: u32 = 13;
-
 // Writes an answer out; a pipe or disk that takes no more is trouble.
 pub fn say(fd: i32, out: &[u8], end: usize, status: i32) -> i32 {
     if io::write_all(fd, text::part(out, 0, end)) {

@@ -6,6 +6,7 @@ mod read;
 mod scan;
 mod write;
 
+pub use read::END_YEAR;
 pub use read::Parsed;
 pub use read::read_close;
 pub use read::read_day;

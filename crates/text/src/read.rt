@@ -7,7 +7,7 @@ use dates::MONTHS;
 // The first year that days and months are counted from, and the one after the last.
 const FIRST_YEAR: u32 = 2000;
 
-const END_YEAR: u32 = 2100;
+pub const END_YEAR: u32 = 2100;
 
 pub enum Parsed {
     Number(u32),

@@ -11,7 +11,7 @@ pub use parts::live_months;
 pub use parts::neighbours;
 pub use series::name_refusal;
 
-// A calendar's refusal, 11 to 13: `length` is the calendar's, or as much of it as was read; `month` stands beside 13.
+// A calendar's refusal, 11 to 13: `length` is the calendar's, `month` stands beside 13.
 pub fn calendar_refusal(out: &mut [u8], at: usize, length: u32, number: u32, month: u32) -> usize {
     opening::refusal(out, at, number, length, month, 0, 0)
 }

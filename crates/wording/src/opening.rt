@@ -4,8 +4,8 @@ use calendar::CALENDAR_LENGTH;
 use dates::DAYS;
 use register::REGISTER_LENGTH;
 
-// A length beyond this is told as this "or more".
-const LONGEST: usize = 1000000;
+// The longest that is told as it is.
+const LONGEST: usize = 4294967295;
 
 pub fn length(bytes: &[u8]) -> u32 {
     let n = bytes.len();
@@ -15,21 +15,12 @@ pub fn length(bytes: &[u8]) -> u32 {
     LONGEST as u32
 }
 
-// A longer file may have been read in part only.
-fn letter(number: u32, length: u32) -> u8 {
+fn letter(number: u32) -> u8 {
     match number {
-        11 => if (CALENDAR_LENGTH as u32) < length {
-            b'C'
-        } else {
-            b'c'
-        },
+        11 => b'c',
         12 => b'l',
         13 => b'f',
-        14 => if (REGISTER_LENGTH as u32) < length {
-            b'R'
-        } else {
-            b'r'
-        },
+        14 => b'r',
         15 => b'd',
         16 => b's',
         17 => b'e',
@@ -66,9 +57,6 @@ pub fn refusal(
         b"|crefused, cause 11: the calendar has %n bytes, not %n\n  \
           look whether that file is the calendar\n  \
           sindhopul calendar LIST FILE makes one from a list of days\n\
-          |Crefused, cause 11: the calendar has %n bytes or more, not %n\n  \
-          look whether that file is the calendar\n  \
-          sindhopul calendar LIST FILE makes one from a list of days\n\
           |lrefused, cause 12: the calendar has a session after its last day, %d\n  \
           the three highest bits of its last byte have to be zero\n  \
           make it anew: sindhopul calendar LIST FILE\n\
@@ -76,9 +64,6 @@ pub fn refusal(
           the calendar needs one from %d to %d\n  \
           mend the list of days and make the calendar anew: sindhopul calendar LIST FILE\n\
           |rrefused, cause 14: the register has %n bytes, not %n\n  \
-          look whether that file is the register\n  \
-          the journal makes it anew: sindhopul replay CALENDAR JOURNAL REGISTER\n\
-          |Rrefused, cause 14: the register has %n bytes or more, not %n\n  \
           look whether that file is the register\n  \
           the journal makes it anew: sindhopul replay CALENDAR JOURNAL REGISTER\n\
           |drefused, cause 15: this is no register of this calendar, or it was damaged\n  \
@@ -92,7 +77,7 @@ pub fn refusal(
           or, if it ran before:\n  \
           the journal makes it anew: sindhopul replay CALENDAR JOURNAL REGISTER\n\
           |?refused, cause %n: \n",
-        letter(number, length),
+        letter(number),
         values(number, length, month, stands, next),
     )
 }

@@ -1,8 +1,7 @@
 // Causes 27 to 29: names of series.
 use crate::forms::tell;
 use dates::MONTHS;
-
-const NAME_LENGTH: u32 = 11;
+use names::LENGTH;
 
 // 29: what may stand at a place.
 fn misplaced(place: u32) -> u8 {
@@ -23,9 +22,9 @@ pub fn name_refusal(out: &mut [u8], at: usize, number: u32, place: u32) -> usize
         _ => b'?',
     };
     let value = match number {
-        27 => NAME_LENGTH,
+        27 => LENGTH as u32,
         28 => MONTHS as u32 - 1,
-        29 => place % NAME_LENGTH + 1,
+        29 => place % LENGTH as u32 + 1,
         _ => number,
     };
     tell(

@@ -1,9 +1,9 @@
 // A journal of calls: the register made of it again, and the audit of a register against it.
 use files::Loaded;
+use help::AUDIT;
 use journal::Calls;
 use libc::STDERR_FILENO;
 use libc::STDOUT_FILENO;
-use terminal::AUDIT;
 use terminal::DONE;
 use terminal::REFUSED;
 use terminal::TROUBLE;

@@ -1,16 +1,16 @@
-// Commands that read and answer: check, rows, show, picture, name, why; and the calendar made from its list.
+// Commands that ask a register, a calendar or a name and answer: check, rows, show, picture, name, why; and the calendar made
+// from its list.
 use dates::DAYS;
 use files::Loaded;
+use help::PICTURE;
+use help::ROWS;
+use help::SHOW;
 use holidays::Made;
 use libc::STDERR_FILENO;
 use libc::STDOUT_FILENO;
 use names::Series;
 use terminal::DONE;
-use terminal::PICTURE;
-use terminal::PREVIEW;
 use terminal::REFUSED;
-use terminal::ROWS;
-use terminal::SHOW;
 use terminal::TROUBLE;
 use terminal::refuse;
 use terminal::say;
@@ -160,8 +160,8 @@ fn show(calendar: &[u8], register: &[u8]) -> i32 {
     say(STDOUT_FILENO, &out, end, DONE)
 }
 
-// A question about a register that can be used.
-fn ask(command: u32, calendar: &[u8], register: &[u8]) -> i32 {
+// A question about a register; one that cannot be used is refused.
+pub fn ask(command: u32, calendar: &[u8], register: &[u8]) -> i32 {
     let first = reading::first_live(calendar, register);
     let number = register::rows_number(calendar, register, first);
     if number != 0 {
@@ -174,17 +174,6 @@ fn ask(command: u32, calendar: &[u8], register: &[u8]) -> i32 {
         PICTURE => draw(calendar, register),
         _ => why(calendar, register),
     }
-}
-
-pub fn with_register(command: u32, calendar: &[u8]) -> i32 {
-    let mut register = space::register();
-    if !terminal::file(3, &mut register) {
-        return TROUBLE;
-    }
-    if command == PREVIEW {
-        return booking::preview(calendar, &register);
-    }
-    ask(command, calendar, &register)
 }
 
 fn read_name() -> i32 {

@@ -1,16 +1,17 @@
 #!/bin/sh
-# Kills a session at each of its system calls in turn, before the call and after it. Whenever it dies, the register is
-# the old one or the new one to the byte and the journal has lost nothing; the same command then completes the work.
-# usage: tests/console/kill.sh SINDHOPUL
+# At each system call of a session in turn: kills it before the call and after it, and lets the call fail. Whatever was
+# met, the register is the old one or the new one to the byte and the journal has lost nothing; the same command then
+# completes the work.
+# usage: tests/console/faults.sh SINDHOPUL
 set -eu
 here=$(cd "$(dirname "$0")" && pwd)
 program=$(realpath "$1")
 work=$(mktemp -d)
 trap 'rm -r "$work"' EXIT
-"${CC:-cc}" -std=c11 -Wall -Wextra -Werror -pedantic -O2 "$here/kill_at.c" -o "$work/kill_at"
+"${CC:-cc}" -std=c11 -Wall -Wextra -Werror -pedantic -O2 "$here/fault_at.c" -o "$work/fault_at"
 
 fail() {
-    echo "kill: at stop $n: $*" >&2
+    echo "faults: $fault at call $n: $*" >&2
     ls -l "$work/desk" >&2
     exit 1
 }
@@ -20,7 +21,7 @@ session() {
 }
 
 # A session after an expiry with an announcement waiting: rows leave, rows come, places are cleared.
-n=0
+fault=none n=0
 mkdir "$work/old" "$work/desk"
 cd "$work/old"
 "$program" calendar "$here/../../calendars/warsaw.txt" calendar >/dev/null
@@ -35,18 +36,20 @@ if cmp -s register "$work/old/register"; then fail "the session changed no regis
 head -c "$old_size" journal | cmp -s - "$work/old/journal" || fail "the session changed the old journal"
 [ "$(tail -c +$((old_size + 1)) journal | wc -l)" -eq 1 ] || fail "the session added no single line"
 
-old=0 new=0 locks=0 torn=0
-cd "$work/desk"
-while :; do
-    n=$((n + 1))
+# Sets the desk, meets the fault there and looks at what it left; answers 1 where the command ended before its n-th call.
+meet() {
     rm -f ./*
     cp "$work/old/"* .
     status=0
-    session "$work/kill_at" "$n" >/dev/null 2>&1 || status=$?
+    session "$work/fault_at" "$fault" "$n" >/dev/null 2>&1 || status=$?
     case $status in
     0) ;;
-    1) break ;;
-    *) fail "kill_at ended with $status" ;;
+    1) return 1 ;;
+    3)
+        cmp -s register "$work/new/register" || fail "the command said done and left another register"
+        cmp -s journal "$work/new/journal" || fail "the command said done and left another journal"
+        ;;
+    *) fail "fault_at ended with $status" ;;
     esac
 
     if cmp -s register "$work/old/register"; then
@@ -82,11 +85,16 @@ while :; do
     cmp -s register "$work/new/register" || fail "the same command then left another register"
     cmp -s "$work/kept" "$work/new/journal" || fail "the same command then left another journal"
     [ "$(echo *)" = "calendar journal register" ] || fail "other files are left"
-done
+}
 
-# The run that was not killed is the whole command: past its last stop nothing is untried.
-cmp -s register "$work/new/register" || fail "the whole run left another register"
-cmp -s journal "$work/new/journal" || fail "the whole run left another journal"
-[ "$old" -gt 0 ] || fail "no kill left the old register"
-[ "$new" -gt 0 ] || fail "no kill left the new register"
-echo "kill: $((n - 1)) kills, $old left the old register, $new the new one; $locks left a lock, $torn part of a line"
+cd "$work/desk"
+for fault in before after fail; do
+    n=1 old=0 new=0 locks=0 torn=0
+    while meet; do n=$((n + 1)); done
+    # The run that met no fault is the whole command: past its last call nothing is untried.
+    cmp -s register "$work/new/register" || fail "the whole run left another register"
+    cmp -s journal "$work/new/journal" || fail "the whole run left another journal"
+    [ "$old" -gt 0 ] || fail "the old register was never left"
+    [ "$new" -gt 0 ] || fail "the new register was never left"
+    echo "faults, $fault: $((n - 1)) calls, $old left the old register, $new the new one; $locks left a lock, $torn part of a line"
+done
