@@ -5,3 +5,4 @@ pub mod Ladder
 pub mod Ladders
 pub mod SpanLaws
 pub mod Relisted
+pub mod Stretches

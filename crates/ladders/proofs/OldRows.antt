@@ -42,22 +42,18 @@ module _ (m : Plan) (p : ℕ) where
     unfolding isNext
     next-none h = rw (rows-none bs h)
 
-    pub next-is : 8 ≤ length bs → isNext m p (rowsIn bs) ≡ (eqb (m .month) (at16 bs 0) && eqb p (at16 bs 2))
-    unfolding isNext
-    next-is h = rw (rows-some bs h)
-
     -- where the row is next it is there
     pub next-there : isNext m p (rowsIn bs) ≡ true → 8 ≤ length bs
     next-there e = byLe 8 (length bs) (λ h. h) (λ h. clash (isNext m p (rowsIn bs)) e (next-none h))
 
-    pub found-next : isNext m p (rowsIn bs) ≡ true → Found m bs p (record { first = at16 bs 4; origin = getD bs 6 0; used = 8 })
+    pub found-next : isNext m p (rowsIn bs) ≡ true → Found m bs p (at16 bs 4) (getD bs 6 0) 8
     found-next e =
         let h = next-there e in
         let s = rows-some bs h in
         let n = entry-next (firstRow bs) (rowsIn (drop 8 bs)) (rw s at e) in
-        record { first = rw (s, n .0); origin = rw (s, n .0); in-range = h; left = rw (s, n .1) }
+        record { first-is = rw (s, n .0); origin-is = rw (s, n .0); in-range = h; left = rw (s, n .1) }
 
-    pub found-new : isNext m p (rowsIn bs) ≡ false → Found m bs p (record { first = m .day; origin = addedOrigin m p; used = 0 })
+    pub found-new : isNext m p (rowsIn bs) ≡ false → Found m bs p (m .day) (addedOrigin m p) 0
     found-new e =
         let n = entry-new (rowsIn bs) e in
-        record { first = rw (n .0); origin = rw (n .0); in-range = omega arith; left = sym (n .1) }
+        record { first-is = rw (n .0); origin-is = rw (n .0); in-range = omega arith; left = sym (n .1) }

@@ -4,18 +4,20 @@
 use mathlib.Core.Path.{_≡_}
 use mathlib.Core.Bool.{Bool, true, false, cond, _&&_}
 use mathlib.Core.List.{List, [], _∷_, _++_}
-use Prim.Native.Nat.{ℕ, zero, suc, _+_, _/_, _≤_, _<_}
+use Prim.Native.Nat.{ℕ, zero, suc, _+_, _*_, _/_, _≤_, _<_}
 use lib.Dec.{eqb}
 use lib.ListN.{length, getD, drop}
 use Rattle.base.specs.Lists.{elem, select, within}
 use Rattle.dates.specs.Months.{monthCount}
 use Rattle.calendar.specs.Live.{tierOf}
 use Rattle.grid.specs.Grid.{gridOf}
+use Rattle.grid.specs.Numbers.{stride}
 use Rattle.grid.specs.declared.Strikes.{Strikes}
 use Rattle.register.specs.Rows.{Entry, newEntry, Row, row}
 use Rattle.register.specs.Bytes.{two, mostRows, readRows}
+use Rattle.register.specs.Scan.{bandStep}
 use Rattle.ladders.specs.declared.Plan.{Plan}
-use Rattle.ladders.specs.declared.NextRow.{NextRow}
+use Rattle.ladders.specs.declared.Stretch.{Stretch}
 
 -- the rows in some bytes
 unfoldable pub rowsIn : List ℕ → List Row
@@ -62,12 +64,30 @@ unfoldable pub leftBy : Plan → List ℕ → List Row → List Row
 leftBy m [] old = old
 leftBy m (p ∷ ps) old = leftBy m ps (leftAt m p old)
 
--- what is found for the row at a price, where `old` holds the old rows that are left: its entry, and the bytes that it takes up of them
-pub record Found (m : Plan) (old : List ℕ) (p : ℕ) (r : NextRow) : Type 0 where
-  pub first : r .first ≡ entryAt m p (rowsIn old) .first
-  pub origin : r .origin ≡ entryAt m p (rowsIn old) .origin
-  pub in-range : r .used ≤ length old
-  pub left : rowsIn (drop (r .used) old) ≡ leftAt m p (rowsIn old)
+-- what the row at a price has, where `old` holds the old rows that are left: its entry, and the bytes that it takes up of them
+pub record Found (m : Plan) (old : List ℕ) (p first origin used : ℕ) : Type 0 where
+  pub first-is : first ≡ entryAt m p (rowsIn old) .first
+  pub origin-is : origin ≡ entryAt m p (rowsIn old) .origin
+  pub in-range : used ≤ length old
+  pub left : rowsIn (drop used old) ≡ leftAt m p (rowsIn old)
+
+-- a stretch of rows from a price on: that price's row, and below the end the same for each price behind it, which takes up no old row
+pub record Alike (m : Plan) (old : List ℕ) (p : ℕ) (s : Stretch) (used : ℕ) : Type 0 where
+  pub here : Found m old p (s .first) (s .origin) used
+  pub step : s .step ≡ stride (m .tier) * bandStep p
+  pub more : (q : ℕ) → p < q → q < s .end → Found m (drop used old) q (s .first) (s .origin) 0 × (s .step ≡ stride (m .tier) * bandStep q)
+
+-- the price of the first of some rows where that is of a plan's month; else 0
+unfoldable pub nextPrice : Plan → List Row → ℕ
+nextPrice m [] = 0
+nextPrice m (r ∷ rs) = cond (eqb (m .month) (r .month)) (r .price) 0
+
+-- below r no price behind p is the next one, and each lies in the same spans as p
+pub record Ends (m : Plan) (next end p r : ℕ) : Type 0 where
+  pub most : r ≤ end
+  pub before : p < next → r ≤ next
+  pub held : (q : ℕ) → p ≤ q → q < r → within (m .held .low) (m .held .high) q ≡ within (m .held .low) (m .held .high) p
+  pub wide : (q : ℕ) → p ≤ q → q < r → within (m .wide .low) (m .wide .high) q ≡ within (m .wide .low) (m .wide .high) p
 
 -- what a ladder's writer asks: a span of the grid, and room for its rows
 pub record Spanned (m : Plan) : Type 0 where

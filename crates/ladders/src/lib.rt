@@ -10,7 +10,7 @@ ghost use lib.ListN.{length, take, drop, getD, replicate};
 ghost use Rattle.base.specs.Lists.{within};
 ghost use Rattle.dates.specs.Months.{monthCount};
 ghost use Rattle.register.specs.Bytes.{registerLength, rowsBytes, padded};
-ghost use Rattle.ladders.specs.Writing.{rowsIn, rowBytes, pricesIn, addedOrigin, isNext, ladderBy, leftBy, Found, Spanned, laddersFrom, strikesAt, planAt, Ready};
+ghost use Rattle.ladders.specs.Writing.{rowsIn, rowBytes, pricesIn, addedOrigin, nextPrice, ladderBy, leftBy, Ends, Alike, Spanned, laddersFrom, strikesAt, planAt, Ready};
 
 // How one month's ladder is written.
 pub struct Plan {
@@ -26,10 +26,14 @@ pub struct Plan {
     pub wide: Strikes,
 }
 
-// A row's first day and origin, and how many bytes it takes up of the old rows.
-pub struct NextRow {
+// Rows of a ladder, from a price on, that differ in price alone.
+pub struct Stretch {
+    // The first price that is no longer of it, and how far apart its prices stand.
+    pub end: u64,
+    pub step: u64,
     pub first: u16,
     pub origin: u8,
+    // How many bytes it takes up of the old rows. An old row is a stretch by itself.
     pub used: usize,
 }
 
@@ -66,38 +70,71 @@ fn added_origin(plan: Plan, price: u16) -> u8
     }
 }
 
-// Whether the first of the old rows is that of the plan's month and a price.
-fn is_next(plan: Plan, old: &[u8], price: u16) -> bool
-    ensures { λ r. ⌜ r ≡ isNext plan price (rowsIn (now (old .entry))) ⌝ }
+// The price of the first of the old rows where that is of the plan's month; else 0.
+fn next_price(plan: Plan, old: &[u8]) -> u16
+    ensures { λ r. ⌜ r ≡ nextPrice plan (rowsIn (now (old .entry))) ⌝ }
 {
     if old.len() < 8 {
-        return false;
+        return 0;
     }
     if plan.month == register::word(old, 0) {
-        price == register::word(old, 2)
+        register::word(old, 2)
     } else {
-        false
+        0
     }
 }
 
-// What the row at a price has: what the first of the old rows has where that is its row, else what a row added has.
-fn next_row(plan: Plan, old: &[u8], price: u16) -> NextRow
-    ensures { λ r. ⌜ Found plan (now (old .entry)) price r ⌝ }
+// An end, moved forward to an edge where one lies between it and a price.
+fn nearer(end: u64, edge: u64, price: u64) -> u64
+    ensures { λ r. ⌜ (r ≤ end) × (price < edge → r ≤ edge) ⌝ }
 {
-    if is_next(plan, old, price) {
+    if price < edge {
+        if edge < end {
+            return edge;
+        }
+    }
+    end
+}
+
+// Where added rows from a price on cease to be alike: at an end, at the next old row, and where a span begins or has ended.
+fn stretch_end(plan: Plan, next: u16, end: u64, price: u64) -> u64
+    ensures { λ r. ⌜ Ends plan next end price r ⌝ }
+{
+    let held = plan.held;
+    let wide = plan.wide;
+    let end = nearer(end, next as u64, price);
+    let end = nearer(end, held.low as u64, price);
+    let end = nearer(end, held.high as u64 + 1, price);
+    let end = nearer(end, wide.low as u64, price);
+    nearer(end, wide.high as u64 + 1, price)
+}
+
+// The rows from a price on: the first of the old rows where that is its row, else those that are added up to the next change.
+fn stretch_from(plan: Plan, old: &[u8], price: u64) -> Stretch
+    requires { ⌜ (0 < price) × (price < 10000) ⌝ }
+    ensures { λ r. ⌜ Alike plan (now (old .entry)) price r (r .used) ⌝ }
+{
+    let next = next_price(plan, old);
+    let tier = plan.tier;
+    let band = register::band_of(price, grid::stride_of(tier) as u64);
+    if price == next as u64 {
         let first = register::word(old, 4);
-        NextRow {
+        return Stretch {
+            end: price + 1,
+            step: band.step,
             first: first,
             origin: old[6],
             used: 8,
-        }
-    } else {
-        let origin = added_origin(plan, price);
-        NextRow {
-            first: plan.day,
-            origin: origin,
-            used: 0,
-        }
+        };
+    }
+    let origin = added_origin(plan, price as u16);
+    let end = stretch_end(plan, next, band.end, price);
+    Stretch {
+        end: end,
+        step: band.step,
+        first: plan.day,
+        origin: origin,
+        used: 0,
     }
 }
 
@@ -122,19 +159,31 @@ fn write_ladder(rest: &mut [u8], old: &[u8], plan: Plan) -> Written
     ensures { λ r. ⌜ (r .size ≡ 8 * length (pricesIn plan)) × (r .used ≤ length (now (old .entry))) × (rowsIn (drop (r .used) (now (old .entry))) ≡ leftBy plan (pricesIn plan) (rowsIn (now (old .entry)))) ⌝ }
     ensures { λ _. ⌜ now (rest .exit) ≡ rowsBytes (ladderBy plan (pricesIn plan) (rowsIn (now (old .entry)))) ++ drop (8 * length (pricesIn plan)) (now (rest .entry)) ⌝ }
 {
-    let tier = plan.tier;
-    let stride = grid::stride_of(tier);
-    let mut number = grid::number_of(plan.span.low as u32);
-    let last = grid::number_of(plan.span.high as u32);
+    let high = plan.span.high as u64;
+    let mut price = plan.span.low as u64;
+    let mut stretch = Stretch {
+        end: 0,
+        step: 0,
+        first: 0,
+        origin: 0,
+        used: 0,
+    };
     let mut at: usize = 0;
     let mut from: usize = 0;
-    while number <= last {
-        let price = grid::price_at(number);
-        let row = next_row(plan, &old[from..], price);
-        write_row(&mut rest[at..], plan.month, price, row.first, row.origin);
+    while price <= high {
+        if stretch.end <= price {
+            stretch = stretch_from(plan, &old[from..], price);
+            from += stretch.used;
+        }
+        write_row(
+            &mut rest[at..],
+            plan.month,
+            price as u16,
+            stretch.first,
+            stretch.origin,
+        );
         at += 8;
-        from += row.used;
-        number += stride;
+        price += stretch.step;
     }
     Written {
         size: at,

@@ -110,12 +110,12 @@ fn row_fits(register: &[u8], at: usize, day: u16, month: u16, price: u64) -> boo
 }
 
 // The band of a grid in which a price lies: how far apart its prices stand at a stride, and where it ends.
-struct Band {
-    step: u64,
-    end: u64,
+pub struct Band {
+    pub step: u64,
+    pub end: u64,
 }
 
-fn band_of(price: u64, stride: u64) -> Band
+pub fn band_of(price: u64, stride: u64) -> Band
     requires { ⌜ stride ≤ 4 ⌝ }
     ensures { λ r. ⌜ (r .step ≡ stride * bandStep price) × (r .step ≤ 100) × (r .end ≡ bandEnd price) ⌝ }
 {

@@ -1,151 +1,145 @@
--- `ladders::write_ladder` meets its contract: what the loop keeps is Ladder's Inv.
+-- `ladders::write_ladder` meets its contract: what the loop keeps is Ladder's Going.
 -- Assumes nothing.
-use mathlib.Core.Path.{_≡_, _∙_}
-use Prim.Native.Nat.{_+_, _-_, _≤_, _<_}
+use mathlib.Core.Path.{_≡_, refl, _∙_}
+use mathlib.Core.Logic.{⊎-elim}
+use Prim.Native.Nat.{ℕ, _+_, _-_, _*_, _≤_, _<_}
 use native.Mathlib.Omega.{arith}
 use lib.ListN.{length, drop, length-drop}
 use borrow.Author.Needs.{needs}
-use Rattle.grid.specs.Numbers.{price, numberOf, stride, topNumber}
-use Rattle.grid.proofs.Grids.{stride-pos, stride-le}
-use Rattle.ladders.specs.Writing.{Found}
+use Rattle.grid.specs.Numbers.{price}
+use Rattle.ladders.specs.Writing.{Alike}
 use Rattle.ladders.proofs.Parts.{whole-part}
-use Rattle.ladders.proofs.Ladder.{Inv, begin, last-in, room, turn, end, all-done, all-left}
+use Rattle.ladders.proofs.Ladder.{Going, going, price-in, room-for, same, step-up, step-in, step-on, size-is, bytes-are, left-are}
 use Rattle.ladders.proofs.write_ladder.Statement.{statement}
 use Rattle.ladders.proofs.write_ladder.Tie as tie
 
 abbrev Inv-loop : tie.InvT-loop
-Inv-loop rest₀ old plan stride number₀ last at₀ from₀ rest number at from = Inv plan rest₀ old rest number at from
+Inv-loop rest₀ old plan high price₀ stretch₀ at₀ from₀ rest price stretch at from = Going plan rest₀ old rest price stretch at from
 
 abbrev μ-loop : tie.MeasureT-loop
-μ-loop rest₀ old plan stride number₀ last at₀ from₀ rest number at from = last + 1 - number
+μ-loop rest₀ old plan high price₀ stretch₀ at₀ from₀ rest price stretch at from = high + 1 - price
 
 abbrev start : tie.At-loop Inv-loop μ-loop → tie.Start Inv-loop μ-loop
-start c = c .before .before .before .before .before .before .before .before
+start c = c .before .before .before .before .before
 
-last-is : (c : tie.At-loop Inv-loop μ-loop) → c .before .number-of2 .result ≡ numberOf (start c .args .plan .span .high)
-last-is c = c .before .number-of2 .ensures
-
-stride-is : (c : tie.At-loop Inv-loop μ-loop) → c .before .before .before .before .before .stride-of .result ≡ stride (start c .args .plan .tier)
-stride-is c = c .before .before .before .before .before .stride-of .ensures
-
--- the number of a turn is one of the span, and its row has room
-number-in : (c : tie.In-loop Inv-loop μ-loop) → c .before .loop .number ≤ numberOf (start (c .before) .args .plan .span .high)
-number-in c = rw (last-is (c .before)) at (c .loop-test .taken)
-
-below : (c : tie.In-loop Inv-loop μ-loop) → c .before .loop .number ≤ topNumber
-below c =
-    let s = start (c .before) in
-    omega (arith, number-in c, last-in (s .args .plan) (s .args .rest .now) (s .args .old .now) (s .pre .0))
-
+-- the row of a turn has room
 fits : (c : tie.In-loop Inv-loop μ-loop) → c .before .loop .at + 8 ≤ length (c .before .loop .rest)
 fits c =
     let s = start (c .before) in
     let l = c .before .loop in
-    omega (arith, room (s .args .plan) (s .args .rest .now) (s .args .old .now) (s .pre .0) (l .rest) (l .number) (l .at) (l .from) (l .inv) (number-in c), l .inv .size, s .pre .1)
+    omega (arith, room-for (s .args .plan) (s .args .rest .now) (s .args .old .now) (s .pre .0) (l .rest) (l .price) (l .stretch) (l .at) (l .from) (l .inv) (c .loop-test .taken), l .inv .inv .size, s .pre .1)
 
--- what the old rows give for the row of a turn
-row-found : (c : tie.After-next-row Inv-loop μ-loop)
-    → let l = c .before .before .before .before .loop in
-    let a = start (c .before .before .before .before) .args in
-    Found (a .plan) (drop (l .from) (a .old .now)) (price (l .number)) (c .next-row .result)
-row-found c = rw (c .before .before .price-at .ensures, whole-part) at (c .next-row .ensures)
+-- the stretch that a turn's row is of, and how many bytes of the old rows it takes up
+taken : (c : tie.Joined1 Inv-loop μ-loop)
+    → let t = c .before .before in
+    let l = t .before .loop in
+    let a = start (t .before) .args in
+    (used : ℕ) × Alike (a .plan) (drop (l .from) (a .old .now)) (l .price) (c .if1 .stretch) used × (c .if1 .from ≡ l .from + used)
+taken c =
+    let t = c .before .before in
+    let l = t .before .loop in
+    let s = start (t .before) in
+    ⊎-elim
+    (λ w. (w .2 .result .used, rw (w .4) (rw whole-part at (w .2 .ensures)), w .5))
+    (λ w. (0, rw (w .1) (same (s .args .plan) (s .args .rest .now) (s .args .old .now) (s .pre .0) (l .rest) (l .price) (l .stretch) (l .at) (l .from) (l .inv) (t .loop-test .taken) (w .0 .left)), w .2 ∙ omega arith))
+    (c .if1 .came)
 
-abbrev inLoop : tie.After-struct-known3 Inv-loop μ-loop → tie.In-loop Inv-loop μ-loop
-inLoop c = c .before .before .before .before .before .before .before .before
+abbrev joined : tie.After-struct-known5 Inv-loop μ-loop → tie.Joined1 Inv-loop μ-loop
+joined c = c .before .before .before .before .before
 
-stride-of-requires : tie.Need-stride-of-requires Inv-loop μ-loop
-stride-of-requires c κs = search needs
+cast-high : tie.Need-cast-high Inv-loop μ-loop
+cast-high c = search needs
 
-cast-number-of : tie.Need-cast-number-of Inv-loop μ-loop
-cast-number-of c = search needs
-
-number-of-requires : tie.Need-number-of-requires Inv-loop μ-loop
-number-of-requires c κs = search needs
-
-cast-number-of-2 : tie.Need-cast-number-of-2 Inv-loop μ-loop
-cast-number-of-2 c = search needs
-
-number-of-requires-2 : tie.Need-number-of-requires-2 Inv-loop μ-loop
-number-of-requires-2 c κs = search needs
+cast-price : tie.Need-cast-price Inv-loop μ-loop
+cast-price c = search needs
 
 loop-holds : tie.Need-loop-holds Inv-loop μ-loop
 loop-holds c =
-    let s = c .before .before .before .before .before .before .before in
-    rw (c .before .before .number-of .ensures) (begin (s .args .plan) (s .args .rest .now) (s .args .old .now) (s .pre .0))
+    let s = c .before .before .before .before in
+    going (s .args .plan) (s .args .rest .now) (s .args .old .now) (s .pre .0) _ refl
 
-price-at-requires : tie.Need-price-at-requires Inv-loop μ-loop
-price-at-requires c κs = below c
+sub-stretch-from : tie.Need-sub-stretch-from Inv-loop μ-loop
+sub-stretch-from c = c .before .before .before .loop .inv .inv .from-in
 
-sub-next-row : tie.Need-sub-next-row Inv-loop μ-loop
-sub-next-row c = c .before .before .loop .inv .from-in
+part-stretch-from-start : tie.Need-part-stretch-from-start Inv-loop μ-loop
+part-stretch-from-start c = c .before .before .before .loop .inv .inv .from-in
 
-part-next-row-start : tie.Need-part-next-row-start Inv-loop μ-loop
-part-next-row-start c = c .before .before .loop .inv .from-in
+part-stretch-from-end : tie.Need-part-stretch-from-end Inv-loop μ-loop
+part-stretch-from-end c = search needs
 
-part-next-row-end : tie.Need-part-next-row-end Inv-loop μ-loop
-part-next-row-end c = search needs
+stretch-from-requires : tie.Need-stretch-from-requires Inv-loop μ-loop
+stretch-from-requires c κs =
+    let t = c .before .before .before in
+    let l = t .before .loop in
+    let s = start (t .before) in
+    price-in (s .args .plan) (s .args .rest .now) (s .args .old .now) (s .pre .0) (l .rest) (l .price) (l .stretch) (l .at) (l .from) (l .inv) (t .loop-test .taken)
 
-next-row-requires : tie.Need-next-row-requires Inv-loop μ-loop
-next-row-requires c κs = search needs
+add-from : tie.Need-add-from Inv-loop μ-loop
+add-from c =
+    let t = c .before .before .before .before .before in
+    let s = start (t .before) in
+    omega (arith, simp length-drop at ((rw whole-part at (c .before .stretch-from .ensures)) .here .in-range), t .before .loop .inv .inv .from-in, s)
 
 sub-write-row : tie.Need-sub-write-row Inv-loop μ-loop
-sub-write-row c = omega (arith, fits (c .before .before .before))
+sub-write-row c = omega (arith, fits (c .before .before))
 
 part-write-row-start : tie.Need-part-write-row-start Inv-loop μ-loop
-part-write-row-start c = omega (arith, fits (c .before .before .before))
+part-write-row-start c = omega (arith, fits (c .before .before))
 
 part-write-row-end : tie.Need-part-write-row-end Inv-loop μ-loop
 part-write-row-end c = search needs
 
+cast-write-row : tie.Need-cast-write-row Inv-loop μ-loop
+cast-write-row c = search needs
+
 write-row-requires : tie.Need-write-row-requires Inv-loop μ-loop
-write-row-requires c κs = rw whole-part (simp length-drop (omega (arith, fits (c .before .before .before .before))))
+write-row-requires c κs = rw whole-part (simp length-drop (omega (arith, fits (c .before .before .before))))
 
 add-at : tie.Need-add-at Inv-loop μ-loop
-add-at c = omega (arith, fits (c .before .before .before .before .before .before .before))
+add-at c = omega (arith, fits (c .before .before .before .before .before .before))
 
-add-from : tie.Need-add-from Inv-loop μ-loop
-add-from c =
-    let r = c .before .before .before .before .before in
-    let t = inLoop c in
+add-price : tie.Need-add-price Inv-loop μ-loop
+unfolding price
+add-price c =
+    let j = joined c in
+    let t = j .before .before in
+    let l = t .before .loop in
     let s = start (t .before) in
-    omega (arith, simp length-drop at (row-found r .in-range), t .before .loop .inv .from-in, s)
-
-add-number : tie.Need-add-number Inv-loop μ-loop
-add-number c =
-    let t = inLoop c in
-    omega (arith, below t, stride-is (t .before), stride-le (start (t .before) .args .plan .tier))
+    omega (arith, step-in (s .args .plan) (s .args .rest .now) (s .args .old .now) (s .pre .0) (l .rest) (l .price) (l .stretch) (l .at) (l .from) (l .inv) (t .loop-test .taken) (j .if1 .stretch) (taken j .0) (taken j .1))
 
 loop-less : tie.Need-loop-less Inv-loop μ-loop
 loop-less c =
-    let t = inLoop c in
-    omega (arith, t .loop-test .taken, stride-is (t .before), stride-pos (start (t .before) .args .plan .tier))
+    let j = joined c in
+    let t = j .before .before in
+    let l = t .before .loop in
+    let s = start (t .before) in
+    omega (arith, t .loop-test .taken, step-up (s .args .plan) (s .args .rest .now) (s .args .old .now) (s .pre .0) (l .rest) (l .price) (l .stretch) (l .at) (l .from) (l .inv) (t .loop-test .taken) (j .if1 .stretch) (taken j .0) (taken j .1))
 
 loop-again : tie.Need-loop-again Inv-loop μ-loop
 loop-again c =
     let w = c .before .before .before in
-    let r = w .before .before in
-    let t = inLoop c in
+    let j = joined c in
+    let t = j .before .before in
     let l = t .before .loop in
     let s = start (t .before) in
-    rw (stride-is (t .before))
-    (turn (s .args .plan) (s .args .rest .now) (s .args .old .now) (s .pre .0) (l .rest) (l .number) (l .at) (l .from) (l .inv) (number-in t)
-    (r .next-row .result) (w .write-row .last .0) (row-found r) (rw (r .before .before .price-at .ensures) at (w .write-row .ensures))
-    (c .before .before .rest .given .1 ∙ l .inv .size))
+    let k = taken j in
+    rw (k .2)
+    (step-on (s .args .plan) (s .args .rest .now) (s .args .old .now) (s .pre .0) (l .rest) (l .price) (l .stretch) (l .at) (l .from) (l .inv) (t .loop-test .taken) (j .if1 .stretch) (k .0) (k .1)
+    (w .write-row .last .0) (w .write-row .ensures) (c .before .before .rest .given .1 ∙ l .inv .inv .size))
 
 same-length : tie.Need-same-length Inv-loop μ-loop
-same-length c = c .before .loop .inv .size
+same-length c = c .before .loop .inv .inv .size
 
 returns : tie.Need-returns Inv-loop μ-loop
 returns c =
     let l = c .before .loop in
-    let s = start (c .before) in
-    let h : numberOf (s .args .plan .span .high) < l .number = rw (last-is (c .before)) at (c .loop-test .left) in (
+    let s = start (c .before) in (
       (
-        end (s .args .plan) (s .args .rest .now) (s .args .old .now) (s .pre .0) (l .rest) (l .number) (l .at) (l .from) (l .inv) h,
-        l .inv .from-in,
-        all-left (s .args .plan) (s .args .rest .now) (s .args .old .now) (s .pre .0) (l .rest) (l .number) (l .at) (l .from) (l .inv) h,
+        size-is (s .args .plan) (s .args .rest .now) (s .args .old .now) (s .pre .0) (l .rest) (l .price) (l .stretch) (l .at) (l .from) (l .inv) (c .loop-test .left),
+        l .inv .inv .from-in,
+        left-are (s .args .plan) (s .args .rest .now) (s .args .old .now) (s .pre .0) (l .rest) (l .price) (l .stretch) (l .at) (l .from) (l .inv) (c .loop-test .left),
       ),
-      all-done (s .args .plan) (s .args .rest .now) (s .args .old .now) (s .pre .0) (l .rest) (l .number) (l .at) (l .from) (l .inv) h,
+      bytes-are (s .args .plan) (s .args .rest .now) (s .args .old .now) (s .pre .0) (l .rest) (l .price) (l .stretch) (l .at) (l .from) (l .inv) (c .loop-test .left),
     )
 
 pub write-ladder-spec : {M : Type 1} → statement M
@@ -154,24 +148,21 @@ write-ladder-spec =
     (tie.spec
     Inv-loop
     μ-loop
-    stride-of-requires
-    cast-number-of
-    number-of-requires
-    cast-number-of-2
-    number-of-requires-2
+    cast-high
+    cast-price
     loop-holds
-    price-at-requires
-    sub-next-row
-    part-next-row-start
-    part-next-row-end
-    next-row-requires
+    sub-stretch-from
+    part-stretch-from-start
+    part-stretch-from-end
+    stretch-from-requires
+    add-from
     sub-write-row
     part-write-row-start
     part-write-row-end
+    cast-write-row
     write-row-requires
     add-at
-    add-from
-    add-number
+    add-price
     loop-less
     loop-again
     same-length
