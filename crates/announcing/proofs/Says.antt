@@ -55,18 +55,18 @@ module _ (cal bs : List ℕ) (m p : ℕ) where
   unfolding bodyOf
   waiting-count = places-count (getD bs 1 0) (drop 8 bs)
 
-  scanned : causesAt cal (at16 bs 2) f (firstLive cal (nextSession cal (at16 bs 2))) (spanIn (spansOf b (liveMonths f)) f m) (elem p (waitingOf m (placesAt bs 8 (getD bs 1 0)))) m p
+  scanned : causesAt cal (at16 bs 2) f (firstLive cal (nextSession cal (at16 bs 2))) (spanIn (liveMonths f) (spansOf b (liveMonths f)) m) (elem p (waitingOf m (placesAt bs 8 (getD bs 1 0)))) m p
       ≡ firstOf (announceCauses (rules cal) b (b .waiting) m p)
   unfolding bodyOf
   scanned = causes-are cal b (b .waiting) m p
 
   -- what the leaves found, put together
   pub gathered : (day first next n : ℕ) (spans : List (List ℕ)) (waits : Bool) → day ≡ at16 bs 2 → first ≡ firstLive cal day → next ≡ firstLive cal (nextSession cal day)
-      → waits ≡ elem p (waitingOf m (placesAt bs 8 (getD bs 1 0))) → spans ≡ spansOf b (liveMonths f) → n ≡ causesAt cal day first next (spanIn spans first m) waits m p
-      → n ≡ causesAt cal (at16 bs 2) f (firstLive cal (nextSession cal (at16 bs 2))) (spanIn (spansOf b (liveMonths f)) f m) (elem p (waitingOf m (placesAt bs 8 (getD bs 1 0)))) m p
+      → waits ≡ elem p (waitingOf m (placesAt bs 8 (getD bs 1 0))) → spans ≡ spansOf b (liveMonths f) → n ≡ causesAt cal day first next (spanIn (liveMonths first) spans m) waits m p
+      → n ≡ causesAt cal (at16 bs 2) f (firstLive cal (nextSession cal (at16 bs 2))) (spanIn (liveMonths f) (spansOf b (liveMonths f)) m) (elem p (waitingOf m (placesAt bs 8 (getD bs 1 0)))) m p
   gathered day first next n spans waits d fi nx w s e = cc
 
-  module _ (n : ℕ) (e : n ≡ causesAt cal (at16 bs 2) f (firstLive cal (nextSession cal (at16 bs 2))) (spanIn (spansOf b (liveMonths f)) f m) (elem p (waitingOf m (placesAt bs 8 (getD bs 1 0)))) m p) where
+  module _ (n : ℕ) (e : n ≡ causesAt cal (at16 bs 2) f (firstLive cal (nextSession cal (at16 bs 2))) (spanIn (liveMonths f) (spansOf b (liveMonths f)) m) (elem p (waitingOf m (placesAt bs 8 (getD bs 1 0)))) m p) where
     pub own-refusal : (n ≡ 0 → ⊥) → n ≡ number (rules cal) (announce m p) (running b)
     unfolding number
     own-refusal h = let g = e ∙ scanned in g ∙ sym (decides (firstOf (announceCauses (rules cal) b (b .waiting) m p)) _ (λ z. h (g ∙ z)))

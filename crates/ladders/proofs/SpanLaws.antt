@@ -16,7 +16,8 @@ use Rattle.base.proofs.Tests.{byLe, and-l, and-r}
 use Rattle.base.proofs.ListLaws.{least-step}
 use Rattle.register.specs.Register.{waitingOf}
 use Rattle.register.specs.Bytes.{at16, readPlaces}
-use Rattle.ladders.specs.Spans.{six, spanIn, announcedPair, sameSpans}
+use Rattle.register.specs.Scan.{spanIn}
+use Rattle.ladders.specs.Spans.{six, announcedPair, sameSpans}
 
 -- ---- six in a row
 pub by-six : (P : ℕ → Type 0) → P 0 → P 1 → P 2 → P 3 → P 4 → P 5 → (i : ℕ) → i < 6 → P i

@@ -9,16 +9,11 @@ use Rattle.base.specs.Lists.{leastOf, greatestOf}
 use Rattle.calendar.specs.Live.{tierOf}
 use Rattle.grid.specs.Grid.{requiredLow, requiredHigh}
 use Rattle.register.specs.Register.{waitingOf}
+use Rattle.register.specs.Scan.{spanIn}
 
 -- one pair for each of the six live months
 abbrev pub six : (ℕ → List ℕ) → List (List ℕ)
 six f = f 0 ∷ f 1 ∷ f 2 ∷ f 3 ∷ f 4 ∷ f 5 ∷ []
-
--- the span of a month among some months' spans; zeros where it is none of them
-unfoldable pub spanIn : List ℕ → List (List ℕ) → ℕ → List ℕ
-spanIn [] spans m = 0 ∷ 0 ∷ []
-spanIn (n ∷ ns) [] m = 0 ∷ 0 ∷ []
-spanIn (n ∷ ns) (s ∷ ss) m = cond (eqb m n) s (spanIn ns ss m)
 
 -- what the live months held on the session before, from the months and spans of that session
 unfoldable pub heldSpans : List ℕ → List (List ℕ) → List ℕ → List (List ℕ)

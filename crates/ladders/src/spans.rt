@@ -6,7 +6,8 @@ ghost use Rattle.dates.specs.Months.{monthCount};
 ghost use Rattle.grid.specs.Grid.{lowestClose, highestClose};
 ghost use Rattle.register.specs.Bytes.{registerLength, readPlaces};
 ghost use Rattle.register.specs.Register.{mostWaiting};
-ghost use Rattle.ladders.specs.Spans.{spanIn, heldSpans, closePair, closeSpans, announcedPair, newPair, newSpans, sameSpans};
+ghost use Rattle.register.specs.Scan.{spanIn};
+ghost use Rattle.ladders.specs.Spans.{heldSpans, closePair, closeSpans, announcedPair, newPair, newSpans, sameSpans};
 
 fn lower(a: u16, b: u16) -> u16
     ensures { λ r. ⌜ r ≡ min a b ⌝ }

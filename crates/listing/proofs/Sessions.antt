@@ -31,12 +31,14 @@ use Rattle.register.specs.Rows.{Entry, newEntry, Row, ladder, rowsOf, find}
 use Rattle.register.specs.Register.{Body, running, waitingOf, spanLow, spanHigh, listed}
 use Rattle.register.specs.Bytes.{registerLength, mostRows, rowsBytes, padded, bytesOf, at16}
 use Rattle.register.specs.Spans.{spansOf}
+use Rattle.register.specs.Scan.{spanIn}
 use Rattle.register.proofs.RowLaws.{rowsOf-same}
 use Rattle.register.proofs.Well.{Running, run-first}
+use Rattle.register.proofs.Waiting.{span-in}
 use Rattle.register.proofs.Held.{Held, ladderOf, found, least-held, greatest-held}
 use Rattle.ladders.specs.declared.Plan.{Plan}
 use Rattle.ladders.specs.Writing.{rowsIn, pricesIn, addedOrigin, laddersFrom, planAt, Spanned, Ready}
-use Rattle.ladders.specs.Spans.{spanIn, heldSpans, closePair, closeSpans, announcedPair, newPair, newSpans, sameSpans}
+use Rattle.ladders.specs.Spans.{heldSpans, closePair, closeSpans, announcedPair, newPair, newSpans, sameSpans}
 use Rattle.ladders.proofs.Between.{between}
 use Rattle.ladders.proofs.Ladders.{ladders-count}
 use Rattle.ladders.proofs.SpanLaws.{by-six, same-at}
@@ -59,15 +61,6 @@ min-P P i j p q = byLe i j (λ l. let e : min i j ≡ i = omega arith in rw e p)
 
 max-P : (P : ℕ → Type 0) (i j : ℕ) → P i → P j → P (max i j)
 max-P P i j p q = byLe i j (λ l. let e : max i j ≡ j = omega arith in rw e q) (λ l. let e : max i j ≡ i = omega arith in rw e p)
-
--- a month's span among those of a register
-span-in : (b : Body) (m : ℕ) (L : List ℕ) → spanIn L (spansOf b L) m ≡ cond (elem m L) (spanLow b m ∷ spanHigh b m ∷ []) (0 ∷ 0 ∷ [])
-unfolding spanIn spansOf elem
-span-in b m [] = refl
-span-in b m (n ∷ ns) =
-    byBool (eqb m n)
-    (λ e. rw (e, eqb-true m n e))
-    (λ e. rw e (span-in b m ns))
 
 module _ (cal bs : List ℕ) (day close : ℕ) (size : length bs ≡ registerLength) (run : Running cal bs) (ok : Taken cal day close) (next : day ≡ nextSession cal (at16 bs 2)) where
   abbrev R : Rules

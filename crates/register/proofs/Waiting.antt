@@ -1,9 +1,10 @@
 -- The waiting announcements: places read one by one, live months and their spans, and an announcement's causes tried downwards.
 -- Assumes nothing.
 use mathlib.Core.Path.{_≡_, refl, _∙_}
-use mathlib.Core.Bool.{true, false, _||_, false≢true}
+use mathlib.Core.Bool.{true, false, cond, _||_}
 use mathlib.Core.List.{List, [], _∷_, _++_}
 use Prim.Native.Nat.{ℕ, zero, suc, _+_, _-_, _*_, _≤_, _<_}
+use native.Mathlib.Nat.{le-of-suc-le-suc}
 use native.Mathlib.Numerals.{add-one}
 use native.Mathlib.Omega.{arith}
 use lib.Dec.{eqb, ltb}
@@ -105,25 +106,35 @@ place-elem m (n ∷ ns) =
     (λ h. rw (← place-elem m ns, le-ltb (placeOf m ns) (length ns) h, le-ltb (suc (placeOf m ns)) (suc (length ns)) (omega arith)))
     (λ h. rw (← place-elem m ns, lt-ltb (placeOf m ns) (length ns) h, lt-ltb (suc (placeOf m ns)) (suc (length ns)) (omega arith)))))
 
-span-in : (b : Body) (m : ℕ) (ms : List ℕ) → elem m ms ≡ true → getD (spansOf b ms) (placeOf m ms) [] ≡ spanLow b m ∷ spanHigh b m ∷ []
-unfolding placeOf elem spansOf
-span-in b m [] e = absurd (false≢true e)
-span-in b m (n ∷ ns) e =
+-- a month's span stands at its place, and is that of a register where the spans are
+pub span-place : (m : ℕ) (ms : List ℕ) (ss : List (List ℕ)) → placeOf m ms < length ms → placeOf m ms < length ss → spanIn ms ss m ≡ getD ss (placeOf m ms) []
+unfolding placeOf spanIn
+span-place m [] ss h k = absurd (omega arith)
+span-place m (n ∷ ns) [] h k = absurd (omega arith)
+span-place m (n ∷ ns) (s ∷ ss) h k =
     byBool (eqb m n)
-    (λ q. rw (q, eqb-true m n q))
-    (λ q. rw q (span-in b m ns (rw q at e)))
+    (λ e. rw e)
+    (λ e. rw e (span-place m ns ss (le-of-suc-le-suc (rw e at h)) (le-of-suc-le-suc (rw e at k))))
+
+pub span-in : (b : Body) (m : ℕ) (ms : List ℕ) → spanIn ms (spansOf b ms) m ≡ cond (elem m ms) (spanLow b m ∷ spanHigh b m ∷ []) (0 ∷ 0 ∷ [])
+unfolding spanIn spansOf elem
+span-in b m [] = refl
+span-in b m (n ∷ ns) =
+    byBool (eqb m n)
+    (λ e. rw (e, eqb-true m n e))
+    (λ e. rw e (span-in b m ns))
 
 -- ---- the causes by numbers are the causes on the register
 module _ (cal : List ℕ) (b : Body) (others : List (ℕ × ℕ)) (m p : ℕ) where
   pub causes-are :
       let f = firstLive cal (b .at .day) in
-      causesAt cal (b .at .day) f (firstLive cal (nextSession cal (b .at .day))) (spanIn (spansOf b (liveMonths f)) f m) (elem p (waitingOf m others)) m p
+      causesAt cal (b .at .day) f (firstLive cal (nextSession cal (b .at .day))) (spanIn (liveMonths f) (spansOf b (liveMonths f)) m) (elem p (waitingOf m others)) m p
       ≡ firstOf (announceCauses (rules cal) b others m p)
-  unfolding causesAt announceCauses rules firstAt tierAt spanIn cause firstOf
+  unfolding causesAt announceCauses rules firstAt tierAt cause firstOf
   causes-are =
       let f : ℕ = firstLive cal (b .at .day) in
       byBool (elem m (liveMonths f))
-      (λ e. rw (span-in b m (liveMonths f) e))
+      (λ e. rw (span-in b m (liveMonths f), e))
       (λ e. byBool (ltb lastFirstMonth (firstLive cal (nextSession cal (b .at .day)))) (λ g. rw g) (λ g. rw (g, e)))
 
 -- ---- one waiting announcement after the other

@@ -95,9 +95,11 @@ unfoldable pub placeOf : ℕ → List ℕ → ℕ
 placeOf x [] = 0
 placeOf x (y ∷ ys) = cond (eqb x y) 0 (suc (placeOf x ys))
 
--- the span of a month among those of the live months, where f is the first
-unfoldable pub spanIn : List (List ℕ) → ℕ → ℕ → List ℕ
-spanIn spans f m = getD spans (placeOf m (liveMonths f)) []
+-- the span of a month among those of some months; zeros where it is none of them
+unfoldable pub spanIn : List ℕ → List (List ℕ) → ℕ → List ℕ
+spanIn [] spans m = 0 ∷ 0 ∷ []
+spanIn (n ∷ ns) [] m = 0 ∷ 0 ∷ []
+spanIn (n ∷ ns) (s ∷ ss) m = cond (eqb m n) s (spanIn ns ss m)
 
 -- causes 20 and 22 to 24 of an announcement, by the numbers that decide them: the day, the first live month of the day and of the next
 -- session, the month's span, and whether the price waits for the month already

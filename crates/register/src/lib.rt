@@ -261,7 +261,7 @@ pub fn refusal(
     price: u32,
 ) -> u16
     requires { ⌜ (first ≡ firstLive (now calendar) day) × (first ≤ lastFirstMonth) × (next ≤ monthCount) ⌝ }
-    ensures { λ r. ⌜ r ≡ causesAt (now (calendar .entry)) day first next (spanIn spans first month) waits month price ⌝ }
+    ensures { λ r. ⌜ r ≡ causesAt (now (calendar .entry)) day first next (spanIn (liveMonths first) spans month) waits month price ⌝ }
 {
     if LAST_FIRST_MONTH < next {
         return 20;

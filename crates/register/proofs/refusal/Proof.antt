@@ -6,7 +6,7 @@ use mathlib.Core.List.{[], _∷_}
 use Prim.Native.Nat.{_≤_, _<_}
 use native.Mathlib.Omega.{arith}
 use lib.Dec.{leb, ltb}
-use lib.ListN.{getD}
+use lib.ListN.{length, getD}
 use borrow.Author.Needs.{needs}
 use borrow.Author.Tests.{lt-ltb, le-ltb, le-leb, lt-leb, not-true, not-false}
 use Rattle.base.specs.Lists.{elem, within}
@@ -20,7 +20,7 @@ use Rattle.rules.specs.Rules.{lastFirstMonth}
 use Rattle.rules.specs.Rulebook.{rules, firstAt}
 use Rattle.rules.proofs.RulebookLaws.{laws}
 use Rattle.register.specs.Scan.{causesAt, spanIn}
-use Rattle.register.proofs.Waiting.{place-le, place-elem}
+use Rattle.register.proofs.Waiting.{place-le, place-elem, span-place}
 use Rattle.register.proofs.refusal.Statement.{statement}
 use Rattle.register.proofs.refusal.Tie as tie
 
@@ -42,6 +42,18 @@ is-live : (c : tie.Else2) →
     let a = c .before .before .before .before .args in
     elem (a .month) (liveMonths (a .first)) ≡ true
 is-live c = sym (live (c .before)) ∙ lt-ltb (c .before .live-place .result) 6 (in-six c)
+
+-- the span that is read is the month's
+span-at : (c : tie.Else2) →
+    let a = c .before .before .before .before .args in
+    spanIn (liveMonths (a .first)) (a .t5) (a .month) ≡ getD (a .t5) (c .before .live-place .result) []
+unfolding liveMonths
+span-at c =
+    let a = c .before .before .before .before .args in
+    let l = in-six c in
+    let e = c .before .live-place .ensures in
+    let k : c .before .live-place .result < length (a .t5) = search needs in
+    rw e (span-place (a .month) (liveMonths (a .first)) (a .t5) (omega arith) (omega arith))
 
 month-le : (c : tie.Else2) → c .before .before .before .before .args .month ≤ 1199
 unfolding rules firstAt
@@ -71,7 +83,7 @@ is-on c = sym (on-grid (c .before)) ∙ not-false _ (c .if4 .left)
 
 by-span : (c : tie.Else4) →
     let a = c .before .before .before .before .before .before .before .before .before .args in
-    let span = spanIn (a .t5) (a .first) (a .month) in
+    let span = spanIn (liveMonths (a .first)) (a .t5) (a .month) in
     causesAt (a .calendar .now) (a .day) (a .first) (a .next) span (a .waits) (a .month) (a .price)
     ≡ firstOf (cause (within (getD span 0 0) (getD span 1 0) (a .price) || a .waits) 24 ∷ [])
 unfolding causesAt cause firstOf
@@ -132,7 +144,7 @@ returns-5 : tie.Need-returns-5
 unfolding cause firstOf
 returns-5 c =
     let a = c .before .before .before .before .before .before .before .before .before .before .args in
-    let span = spanIn (a .t5) (a .first) (a .month) in
+    let span = spanIn (liveMonths (a .first)) (a .t5) (a .month) in
     sym (by-span (c .before) ∙ rw (or-r (within (getD span 0 0) (getD span 1 0) (a .price)) (a .waits) (c .if5 .taken)))
 
 cast-strike : tie.Need-cast-strike
@@ -150,27 +162,27 @@ array-read-if6 : tie.Need-array-read-if6
 array-read-if6 c = search needs
 
 returns-6 : tie.Need-returns-6
-unfolding cause firstOf within spanIn
+unfolding cause firstOf within
 returns-6 c =
     let p = c .before .before .before .before .before .before .before .before .before .before .before .before .args .price in
-    sym (by-span (c .before .before .before) ∙ rw (← c .before .before .before .before .before .before .before .before .before .live-place .ensures, lt-leb _ p (c .if6 .taken), c .before .before .if5 .left))
+    sym (by-span (c .before .before .before) ∙ rw (span-at (c .before .before .before .before .before .before .before .before), lt-leb _ p (c .if6 .taken), c .before .before .if5 .left))
 
 array-read-if7 : tie.Need-array-read-if7
 array-read-if7 c = search needs
 
 returns-7 : tie.Need-returns-7
-unfolding cause firstOf within spanIn
+unfolding cause firstOf within
 returns-7 c =
     let p = c .before .before .before .before .before .before .before .before .before .before .before .before .before .args .price in
     sym (by-span (c .before .before .before .before)
-    ∙ rw (← c .before .before .before .before .before .before .before .before .before .before .live-place .ensures, le-leb _ p (c .before .if6 .left), lt-leb p _ (c .if7 .taken), c .before .before .before .if5 .left))
+    ∙ rw (span-at (c .before .before .before .before .before .before .before .before .before), le-leb _ p (c .before .if6 .left), lt-leb p _ (c .if7 .taken), c .before .before .before .if5 .left))
 
 returns-8 : tie.Need-returns-8
-unfolding cause firstOf within spanIn
+unfolding cause firstOf within
 returns-8 c =
     let p = c .before .before .before .before .before .before .before .before .before .before .before .before .before .args .price in
     sym (by-span (c .before .before .before .before)
-    ∙ rw (← c .before .before .before .before .before .before .before .before .before .before .live-place .ensures, le-leb _ p (c .before .if6 .left), le-leb p _ (c .if7 .left)))
+    ∙ rw (span-at (c .before .before .before .before .before .before .before .before .before), le-leb _ p (c .before .if6 .left), le-leb p _ (c .if7 .left)))
 
 pub refusal-spec : {M : Type 1} → statement M
 refusal-spec =

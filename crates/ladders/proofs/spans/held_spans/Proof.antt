@@ -6,7 +6,8 @@ use Prim.Native.Nat.{ℕ, _-_, _≤_}
 use native.Mathlib.Omega.{arith}
 use lib.ListN.{length, getD, length-set}
 use borrow.Author.Needs.{needs}
-use Rattle.ladders.specs.Spans.{spanIn, heldSpans}
+use Rattle.register.specs.Scan.{spanIn}
+use Rattle.ladders.specs.Spans.{heldSpans}
 use Rattle.ladders.proofs.SpanLaws.{Filled, filled-more, filled}
 use Rattle.ladders.proofs.spans.held_spans.Statement.{statement}
 use Rattle.ladders.proofs.spans.held_spans.Tie as tie
