@@ -8,6 +8,7 @@ use native.Mathlib.Nat.{zero-div}
 use native.Mathlib.Omega.{arith}
 use lib.Dec.{eqb, ltb}
 use lib.ListN.{length, getD, List·getD-eq-default}
+use lib.Pow.{shr-shr}
 use borrow.Author.Tests.{lt-ltb, le-ltb, ltb-true, ltb-false, eq-eqb, ne-eqb, eqb-false, not-false}
 use Rattle.base.specs.Search.{firstIn, someIn}
 use Rattle.base.specs.Lists.{leastOf}
@@ -88,23 +89,23 @@ module _ (cal : List ℕ) (bytes : (i : ℕ) → getD cal i 0 < 256) where
           let f = third-friday-rule m .from in
           byte-lacks-not m k (omega arith) (omega arith) (omega (arith, least-at 255 cal k (omega (arith, third-friday-below m u))))
 
-  -- the 15 days up to day d, in four bytes
+  -- the 15 days up to day d, in the four bytes that end with the 16 days that d lies in
   pub four-bytes :
       (d : ℕ) →
-      14 ≤ d →
-      let k = (d - 14) / 8 in
-      ltb 0 ((getD cal k 0 + 256 * getD cal (k + 1) 0 + 65536 * (getD cal (k + 2) 0 + 256 * getD cal (k + 3) 0)) / 2 ^ ((d - 14) % 8) % 32768)
+      16 ≤ d →
+      let k = d / 16 * 2 - 2 in
+      ltb 0 ((getD cal k 0 + 256 * getD cal (k + 1) 0 + 65536 * (getD cal (k + 2) 0 + 256 * getD cal (k + 3) 0)) / 2 ^ (d % 16) / 4 % 32768)
       ≡ someIn (session cal) (d - 14) (d + 1)
   unfolding word
   four-bytes d h =
-      let k : ℕ = (d - 14) / 8 in
-      let w = word-sessions cal bytes 4 k ((d - 14) % 8) 15 (omega arith) in
-      let a : 8 * k + (d - 14) % 8 ≡ d - 14 = omega arith in
+      let k : ℕ = d / 16 * 2 - 2 in
+      let w = word-sessions cal bytes 4 k (d % 16 + 2) 15 (omega arith) in
+      let a : 8 * k + (d % 16 + 2) ≡ d - 14 = omega arith in
       let b : d - 14 + 15 ≡ d + 1 = omega arith in
       let i : k + 1 + 1 ≡ k + 2 = omega arith in
       let j : k + 2 + 1 ≡ k + 3 = omega arith in
       let v : word cal k 4 ≡ getD cal k 0 + 256 * getD cal (k + 1) 0 + 65536 * (getD cal (k + 2) 0 + 256 * getD cal (k + 3) 0) = rw (i, j) (omega arith) in
-      sym (rw (a, b, v) at w)
+      sym (rw (a, b, v, ← shr-shr _ (d % 16) 2) at w)
 
 -- ---- the check's number: where the length and the last byte are right, the first month that lacks its session decides
 pub months-decide : (cal : List ℕ) → length cal ≡ calendarLength → getD cal 4565 0 < 32 → calendarCause cal ≡ firstOf (cause (ltb (firstLacking cal) monthCount) 13 ∷ [])

@@ -3,12 +3,12 @@ use base::Tier;
 use dates::DAYS;
 use dates::MONTHS;
 ghost use mathlib.Core.Path.{_≡_};
-ghost use Prim.Native.Nat.{_+_, _-_, _/_, _<_, _≤_};
+ghost use Prim.Native.Nat.{_+_, _-_, _*_, _/_, _<_, _≤_};
 ghost use lib.ListN.{length};
-ghost use Rattle.base.specs.Search.{someIn};
+ghost use Rattle.base.specs.Search.{firstIn, someIn};
 ghost use Rattle.base.specs.Lists.{leastOf};
 ghost use Rattle.dates.specs.Months.{monthCount, dayCount, ThirdFridays};
-ghost use Rattle.calendar.specs.Calendar.{calendarLength, session, firstLacking, checkOf, Passes, expiryOf, nextSession};
+ghost use Rattle.calendar.specs.Calendar.{calendarLength, session, lacks, firstLacking, checkOf, Passes, expiryOf, nextSession};
 ghost use Rattle.calendar.specs.Live.{firstLive, liveMonths, tierOf};
 
 // A calendar's length in bytes.
@@ -49,18 +49,33 @@ fn least_byte(calendar: &[u8]) -> u8
     least
 }
 
-// Whether one of the 15 days that end with `last` has a session: their bits, in four bytes taken as one number, which the
-// compiler loads at once.
+// Whether one of the 15 days that end with `last` has a session: their bits, in four bytes taken as one number. The four
+// end with the 16 days that `last` lies in: so each bit but two may count, and the compiler loads all of them at once.
 fn recent_session(calendar: &[u8], last: u16) -> bool
-    requires { ⌜ (14 ≤ last) × ((last - 14) / 8 + 3 < length (now calendar)) ⌝ }
+    requires { ⌜ (16 ≤ last) × (last / 16 * 2 + 1 < length (now calendar)) ⌝ }
     ensures { λ r. ⌜ r ≡ someIn (session (now (calendar .entry))) (last - 14) (last + 1) ⌝ }
 {
-    let first = last - 14;
-    let at = (first / 8) as usize;
+    let at = (last / 16 * 2) as usize - 2;
     let high = (calendar[at + 2] as u32) + 256 * (calendar[at + 3] as u32);
     let low = (calendar[at] as u32) + 256 * (calendar[at + 1] as u32);
     let days = low + 65536 * high;
-    0 < (days >> (first % 8)) % 32768
+    0 < (days >> (last % 16)) / 4 % 32768
+}
+
+// The first month from `from` on that has no session in the 15 days up to its third Friday; 1,200 where each has one.
+// No month that it passes lacks its session. The loop stands alone so that nothing of the scan of days is counted in it.
+fn next_quiet(calendar: &[u8], fridays: &[u16; 1200], from: u16) -> u16
+    requires { ⌜ (length (now calendar) ≡ calendarLength) × ThirdFridays (now fridays) × (from ≤ monthCount) ⌝ }
+    ensures { λ r. ⌜ (from ≤ r) × (r ≤ monthCount) × (firstIn (lacks (now (calendar .entry))) from monthCount ≡ firstIn (lacks (now (calendar .entry))) r monthCount) ⌝ }
+{
+    let mut month = from;
+    while month < MONTHS {
+        if !recent_session(calendar, fridays[month as usize]) {
+            return month;
+        }
+        month += 1;
+    }
+    month
 }
 
 // The first month that has no session from its first day to its third Friday; 1,200 where each has one.
@@ -69,19 +84,17 @@ fn scan_months(calendar: &[u8], fridays: &[u16; 1200]) -> u16
     requires { ⌜ (length (now calendar) ≡ calendarLength) × ThirdFridays (now fridays) ⌝ }
     ensures { λ r. ⌜ r ≡ firstLacking (now (calendar .entry)) ⌝ }
 {
-    let mut month: u16 = 0;
+    let mut month = next_quiet(calendar, fridays, 0);
     'months: while month < MONTHS {
         let last = fridays[month as usize];
-        if !recent_session(calendar, last) {
-            let mut day = dates::first_day(month);
-            while !has_session(calendar, day) {
-                if day == last {
-                    break 'months;
-                }
-                day += 1;
+        let mut day = dates::first_day(month);
+        while !has_session(calendar, day) {
+            if day == last {
+                break 'months;
             }
+            day += 1;
         }
-        month += 1;
+        month = next_quiet(calendar, fridays, month + 1);
     }
     month
 }

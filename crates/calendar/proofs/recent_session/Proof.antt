@@ -1,17 +1,20 @@
 -- `calendar::recent_session` meets its contract: the 15 days are a stretch of the bits of four bytes taken as one number.
 -- Assumes nothing.
-use Prim.Native.Nat.{ℕ, _+_, _-_, _/_}
+use Prim.Native.Nat.{ℕ, _+_, _-_, _*_, _/_}
 use native.Mathlib.Omega.{arith}
 use borrow.Author.Needs.{needs}
 use Rattle.calendar.proofs.Laws.{four-bytes}
 use Rattle.calendar.proofs.recent_session.Statement.{statement}
 use Rattle.calendar.proofs.recent_session.Tie as tie
 
-sub-first : tie.Need-sub-first
-sub-first c = search needs
+mul-at : tie.Need-mul-at
+mul-at c = search needs
 
 cast-at : tie.Need-cast-at
 cast-at c = search needs
+
+sub-at : tie.Need-sub-at
+sub-at c = search needs
 
 add-high : tie.Need-add-high
 add-high c = search needs
@@ -20,7 +23,7 @@ shared-slice-read-high : tie.Need-shared-slice-read-high
 shared-slice-read-high c = search needs
 
 cast-high : tie.Need-cast-high
-cast-high c = omega (arith, c .shared-slice-known .given ((c .before .args .last - 14) / 8 + 2))
+cast-high c = omega (arith, c .shared-slice-known .given (c .before .args .last / 16 * 2 - 2 + 2))
 
 add-high-2 : tie.Need-add-high-2
 add-high-2 c = search needs
@@ -29,21 +32,21 @@ shared-slice-read-high-2 : tie.Need-shared-slice-read-high-2
 shared-slice-read-high-2 c = search needs
 
 cast-high-2 : tie.Need-cast-high-2
-cast-high-2 c = omega (arith, c .shared-slice-known2 .given ((c .before .before .args .last - 14) / 8 + 3))
+cast-high-2 c = omega (arith, c .shared-slice-known2 .given (c .before .before .args .last / 16 * 2 - 2 + 3))
 
 mul-high : tie.Need-mul-high
-mul-high c = omega (arith, c .shared-slice-known2 .given ((c .before .before .args .last - 14) / 8 + 3))
+mul-high c = omega (arith, c .shared-slice-known2 .given (c .before .before .args .last / 16 * 2 - 2 + 3))
 
 add-high-3 : tie.Need-add-high-3
 add-high-3 c =
-    let at : ℕ = (c .before .before .args .last - 14) / 8 in
+    let at : ℕ = c .before .before .args .last / 16 * 2 - 2 in
     omega (arith, c .shared-slice-known2 .given (at + 2), c .shared-slice-known2 .given (at + 3))
 
 shared-slice-read-low : tie.Need-shared-slice-read-low
 shared-slice-read-low c = search needs
 
 cast-low : tie.Need-cast-low
-cast-low c = omega (arith, c .shared-slice-known3 .given ((c .before .before .before .args .last - 14) / 8))
+cast-low c = omega (arith, c .shared-slice-known3 .given (c .before .before .before .args .last / 16 * 2 - 2))
 
 add-low : tie.Need-add-low
 add-low c = search needs
@@ -52,24 +55,24 @@ shared-slice-read-low-2 : tie.Need-shared-slice-read-low-2
 shared-slice-read-low-2 c = search needs
 
 cast-low-2 : tie.Need-cast-low-2
-cast-low-2 c = omega (arith, c .shared-slice-known4 .given ((c .before .before .before .before .args .last - 14) / 8 + 1))
+cast-low-2 c = omega (arith, c .shared-slice-known4 .given (c .before .before .before .before .args .last / 16 * 2 - 2 + 1))
 
 mul-low : tie.Need-mul-low
-mul-low c = omega (arith, c .shared-slice-known4 .given ((c .before .before .before .before .args .last - 14) / 8 + 1))
+mul-low c = omega (arith, c .shared-slice-known4 .given (c .before .before .before .before .args .last / 16 * 2 - 2 + 1))
 
 add-low-2 : tie.Need-add-low-2
 add-low-2 c =
-    let at : ℕ = (c .before .before .before .before .args .last - 14) / 8 in
+    let at : ℕ = c .before .before .before .before .args .last / 16 * 2 - 2 in
     omega (arith, c .shared-slice-known4 .given at, c .shared-slice-known4 .given (at + 1))
 
 mul-days : tie.Need-mul-days
 mul-days c =
-    let at : ℕ = (c .before .before .before .before .args .last - 14) / 8 in
+    let at : ℕ = c .before .before .before .before .args .last / 16 * 2 - 2 in
     omega (arith, c .shared-slice-known4 .given (at + 2), c .shared-slice-known4 .given (at + 3))
 
 add-days : tie.Need-add-days
 add-days c =
-    let at : ℕ = (c .before .before .before .before .args .last - 14) / 8 in
+    let at : ℕ = c .before .before .before .before .args .last / 16 * 2 - 2 in
     omega (arith, c .shared-slice-known4 .given at, c .shared-slice-known4 .given (at + 1), c .shared-slice-known4 .given (at + 2), c .shared-slice-known4 .given (at + 3))
 
 cast-result : tie.Need-cast-result
@@ -85,8 +88,9 @@ pub recent-session-spec : {M : Type 1} → statement M
 recent-session-spec =
     tie.close
     (tie.spec
-    sub-first
+    mul-at
     cast-at
+    sub-at
     add-high
     shared-slice-read-high
     cast-high

@@ -1,0 +1,78 @@
+-- `calendar::next_quiet` meets its contract. The loop keeps what is ensured, of the month where it stands: each month that it passes has its session.
+-- Assumes nothing.
+use mathlib.Core.Path.{_≡_, refl, sym, _∙_}
+use Prim.Native.Nat.{_-_, _≤_}
+use native.Mathlib.Omega.{arith}
+use borrow.Author.Needs.{needs}
+use borrow.Author.Tests.{not-false}
+use Rattle.base.specs.Search.{firstIn}
+use Rattle.base.proofs.SearchLaws.{first-miss}
+use Rattle.dates.specs.Months.{monthCount}
+use Rattle.dates.proofs.Laws.{third-friday-is, third-friday-rule, third-friday-below}
+use Rattle.calendar.specs.Calendar.{lacks}
+use Rattle.calendar.proofs.Laws.{lacks-not}
+use Rattle.calendar.proofs.next_quiet.Statement.{statement}
+use Rattle.calendar.proofs.next_quiet.Tie as tie
+
+abbrev Inv-loop : tie.InvT-loop
+Inv-loop cal fridays from month₀ month =
+    (from ≤ month) × (month ≤ monthCount) × (firstIn (lacks cal) from monthCount ≡ firstIn (lacks cal) month monthCount)
+
+abbrev μ-loop : tie.MeasureT-loop
+μ-loop cal fridays from month₀ month = monthCount - month
+
+loop-holds : tie.Need-loop-holds Inv-loop μ-loop
+loop-holds c = (omega arith, omega arith, refl)
+
+cast-recent-session : tie.Need-cast-recent-session Inv-loop μ-loop
+cast-recent-session c = omega arith
+
+mul-recent-session : tie.Need-mul-recent-session Inv-loop μ-loop
+mul-recent-session c = omega arith
+
+element-copy-out-recent-session : tie.Need-element-copy-out-recent-session Inv-loop μ-loop
+element-copy-out-recent-session c = omega arith
+
+recent-session-requires : tie.Need-recent-session-requires Inv-loop μ-loop
+recent-session-requires c κs =
+    let m = c .before .before .loop .month in
+    let e = c .before .before .before .before .pre .1 .each m (c .before .loop-test .taken) in
+    omega (arith, e, third-friday-is m, third-friday-below m (c .before .loop-test .taken))
+
+returns : tie.Need-returns Inv-loop μ-loop
+returns c = search needs
+
+add-month : tie.Need-add-month Inv-loop μ-loop
+add-month c = omega arith
+
+loop-less : tie.Need-loop-less Inv-loop μ-loop
+loop-less c = omega arith
+
+loop-again : tie.Need-loop-again Inv-loop μ-loop
+loop-again c =
+    let turn = c .before .before .before in
+    let m = turn .before .loop .month in
+    let last = turn .before .before .before .pre .1 .each m (turn .loop-test .taken) in
+    let recent = sym (c .before .recent-session .ensures) ∙ not-false _ (c .if1 .left) in
+    let has = lacks-not _ m _ _ (omega (arith, last, third-friday-rule m .from)) (omega (arith, last)) recent in
+    (omega arith, omega arith, turn .before .loop .inv .2 ∙ first-miss _ _ _ (turn .loop-test .taken) has)
+
+returns-2 : tie.Need-returns-2 Inv-loop μ-loop
+returns-2 c = search needs
+
+pub next-quiet-spec : {M : Type 1} → statement M
+next-quiet-spec =
+    tie.close
+    (tie.spec
+    Inv-loop
+    μ-loop
+    loop-holds
+    cast-recent-session
+    mul-recent-session
+    element-copy-out-recent-session
+    recent-session-requires
+    returns
+    add-month
+    loop-less
+    loop-again
+    returns-2)
