@@ -12,7 +12,8 @@ use Rattle.register.specs.Bytes.{two, placesBytes, rowsBytes, padded, bodyBytes
 use Rattle.register.proofs.ByteLaws.{places-length}
 use Rattle.register.proofs.Kept.{places-count}
 use Rattle.ladders.proofs.Parts.{whole-part, put-rest}
-use Rattle.announcing.specs.Placing.{placeBytes, announced, Room}
+use Rattle.listing.specs.Listing.{announceBody}
+use Rattle.announcing.specs.Placing.{placeBytes, Room}
 
 places-more : (ws : List (ℕ × ℕ)) (m p : ℕ) → placesBytes (ws ++ ((m, p) ∷ [])) ≡ placesBytes ws ++ placeBytes m p
 unfolding placesBytes two
@@ -63,8 +64,8 @@ module _ (bs : List ℕ) (ok : Room bs) (m p : ℕ) where
   -- the same over any body whose bytes they are
   put-any : (b : Body) → bs ≡ bytesOf (running b) → length (b .waiting) < 32 → (last : List ℕ)
       → last ≡ placeBytes m p ++ drop 4 (take (length bs - (8 + 4 * length (b .waiting))) (drop (8 + 4 * length (b .waiting)) bs))
-      → set (putMid (8 + 4 * length (b .waiting)) (length bs - (8 + 4 * length (b .waiting))) bs last) 1 (length (b .waiting) + 1) ≡ bytesOf (running (announced b m p))
-  unfolding bytesOf bodyBytes two padded
+      → set (putMid (8 + 4 * length (b .waiting)) (length bs - (8 + 4 * length (b .waiting))) bs last) 1 (length (b .waiting) + 1) ≡ bytesOf (running (announceBody b m p))
+  unfolding bytesOf bodyBytes two padded announceBody
   put-any b e h last w =
       stored (length (b .waiting)) (b .at .day) (length (b .rows)) (placesBytes (b .waiting)) (padded 11128 (rowsBytes (b .rows))) (places-length (b .waiting)) h bs e
       (placeBytes m p) last refl w
@@ -72,8 +73,9 @@ module _ (bs : List ℕ) (ok : Room bs) (m p : ℕ) where
 
   pub put-is : (last : List ℕ)
       → last ≡ placeBytes m p ++ drop 4 (take (length bs - (8 + 4 * getD bs 1 0)) (drop (8 + 4 * getD bs 1 0) bs))
-      → (getD bs 1 0 + 1 ≡ length (announced (bodyOf bs) m p .waiting))
-      × (set (putMid (8 + 4 * getD bs 1 0) (length bs - (8 + 4 * getD bs 1 0)) bs last) 1 (getD bs 1 0 + 1) ≡ bytesOf (running (announced (bodyOf bs) m p)))
+      → (getD bs 1 0 + 1 ≡ length (announceBody (bodyOf bs) m p .waiting))
+      × (set (putMid (8 + 4 * getD bs 1 0) (length bs - (8 + 4 * getD bs 1 0)) bs last) 1 (getD bs 1 0 + 1) ≡ bytesOf (running (announceBody (bodyOf bs) m p)))
+  unfolding announceBody
   put-is last w =
       let r = ok .room in (
         sym (length-more (bodyOf bs .waiting) m p ∙ ap (λ (k : ℕ). k + 1) counted),

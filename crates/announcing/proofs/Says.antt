@@ -33,7 +33,7 @@ use Rattle.register.proofs.Opens.{zero-status, says-15, says-own, stands-else, 
 use Rattle.listing.specs.Listing.{number, accepted, announceBody}
 use Rattle.listing.specs.Calls.{numberAt, afterAt, announcedAt, waitingIn}
 use Rattle.listing.specs.declared.Announced.{Announced}
-use Rattle.announcing.specs.Placing.{announced, Room}
+use Rattle.announcing.specs.Placing.{Room}
 
 -- ---- a register that runs: its day lies in the calendar, and its places in their part
 module _ (cal bs : List ℕ) (size : length bs ≡ registerLength) (r : Running cal bs) where
@@ -168,7 +168,7 @@ module _ (cal bs : List ℕ) (m p : ℕ) where
             let on = not-false (elem p (R .grid (next R (bodyOf bs .at)) m)) (not-cause _ 22 (none-of _ _ c₂ .0)) in
             (laws cal .live-in (bodyOf bs .at) m (r .well .live) live, laws cal .price-in (next R (bodyOf bs .at)) m p on)
 
-        pub accepts : (waiting : ℕ) (after : List ℕ) → waiting ≡ length (announced (bodyOf bs) m p .waiting) → after ≡ bytesOf (running (announced (bodyOf bs) m p))
+        pub accepts : (waiting : ℕ) (after : List ℕ) → waiting ≡ length (announceBody (bodyOf bs) m p .waiting) → after ≡ bytesOf (running (announceBody (bodyOf bs) m p))
             → (_≡_ {A = Announced} (record { number = 0; waiting = waiting }) (announcedAt cal (announce m p) bs)) × (after ≡ afterAt (rules cal) (announce m p) bs)
         unfolding announcedAt afterAt accepted regOf announceBody waitingIn
         accepts waiting after w a = (rw (own, none, some-byte, w), rw (own, none, some-byte, a))

@@ -1,19 +1,15 @@
 -- How an announcement enters the register's bytes. Contracts of leaves cite this file.
 -- Assumes nothing.
 use mathlib.Core.Path.{_≡_}
-use mathlib.Core.List.{List, [], _∷_, _++_}
+use mathlib.Core.List.{List, [], _∷_}
 use Prim.Native.Nat.{ℕ, _/_, _%_, _<_}
 use lib.ListN.{length, getD}
-use Rattle.register.specs.Register.{mostWaiting, Body, running}
+use Rattle.register.specs.Register.{mostWaiting, running}
 use Rattle.register.specs.Bytes.{registerLength, bytesOf, bodyOf}
 
 -- a place's four bytes
 abbrev pub placeBytes : ℕ → ℕ → List ℕ
 placeBytes month price = month % 256 ∷ month / 256 ∷ price % 256 ∷ price / 256 ∷ []
-
--- a body with one announcement more
-abbrev pub announced : Body → ℕ → ℕ → Body
-announced b month price = record { at = b .at; waiting = b .waiting ++ ((month, price) ∷ []); rows = b .rows }
 
 -- a register in its layout with room for one announcement more
 pub record Room (bs : List ℕ) : Type 0 where

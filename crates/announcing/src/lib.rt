@@ -3,6 +3,7 @@ use listing::Announced;
 use register::MOST_WAITING;
 use register::PLACES;
 ghost use mathlib.Core.Path.{_≡_};
+ghost use mathlib.Core.Bool.{true};
 ghost use mathlib.Core.List.{_++_};
 ghost use Prim.Native.Nat.{_≤_};
 ghost use lib.ListN.{length, drop};
@@ -12,11 +13,10 @@ ghost use Rattle.rules.specs.Rulebook.{rules};
 ghost use Rattle.rules.specs.Calls as Call;
 ghost use Rattle.register.specs.Register.{running};
 ghost use Rattle.register.specs.Bytes.{registerLength, at16, bodyOf, bytesOf};
-ghost use Rattle.register.specs.Spans.{spansOf};
-ghost use Rattle.register.proofs.Well.{Running};
-ghost use Rattle.listing.specs.Listing.{number};
+ghost use Rattle.register.specs.Spans.{runsWell, spansOf};
+ghost use Rattle.listing.specs.Listing.{announceBody, number};
 ghost use Rattle.listing.specs.Calls.{afterAt, announcedAt};
-ghost use Rattle.announcing.specs.Placing.{placeBytes, announced, Room};
+ghost use Rattle.announcing.specs.Placing.{placeBytes, Room};
 
 // Writes an announcement at the front of a part.
 fn write_place(part: &mut [u8], month: u16, price: u16)
@@ -32,8 +32,8 @@ fn write_place(part: &mut [u8], month: u16, price: u16)
 // Puts an announcement into the next free place. Returns how many wait.
 fn put_announcement(register: &mut [u8], month: u16, price: u16) -> u16
     requires { ⌜ Room (now register) ⌝ }
-    ensures { λ r. ⌜ r ≡ length (announced (bodyOf (now (register .entry))) month price .waiting) ⌝ }
-    ensures { λ _. ⌜ now (register .exit) ≡ bytesOf (running (announced (bodyOf (now (register .entry))) month price)) ⌝ }
+    ensures { λ r. ⌜ r ≡ length (announceBody (bodyOf (now (register .entry))) month price .waiting) ⌝ }
+    ensures { λ _. ⌜ now (register .exit) ≡ bytesOf (running (announceBody (bodyOf (now (register .entry))) month price)) ⌝ }
 {
     let waiting = register[1];
     let at = PLACES + 4 * (waiting as usize);
@@ -51,7 +51,7 @@ fn announce_cause(
     price: u32,
 ) -> u16
     requires { ⌜ Passes (now calendar) × (length (now register) ≡ registerLength) ⌝ }
-    requires { ⌜ Running (now calendar) (now register) ⌝ }
+    requires { ⌜ runsWell (now calendar) (now register) ≡ true ⌝ }
     requires { ⌜ spans ≡ spansOf (bodyOf (now register)) (liveMonths (firstLive (now calendar) (at16 (now register) 2))) ⌝ }
     ensures { λ r. ⌜ r ≡ number (rules (now (calendar .entry))) (Call.announce month price) (running (bodyOf (now (register .entry)))) ⌝ }
 {

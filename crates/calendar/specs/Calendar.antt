@@ -57,6 +57,6 @@ Passes cal = calendarCause cal ≡ 0
 unfoldable pub expiryOf : List ℕ → ℕ → ℕ
 expiryOf cal m = lastUpTo (session cal) (thirdFriday m)
 
--- the first session after day d, and 36,525 where there is none
+-- the first session after a day of the calendar, and 36,525 where there is none
 unfoldable pub nextSession : List ℕ → ℕ → ℕ
 nextSession cal d = firstIn (session cal) (d + 1) dayCount

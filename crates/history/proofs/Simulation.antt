@@ -260,7 +260,7 @@ module _ (R : Rules) where
             }
 
     -- ---- an announcement
-    pub after-announce : (m p : ℕ) → elem p (R .grid (next R (b .at)) m) ≡ true → Running R (acceptedCall R (announce m p) h) (announceBody R b m p)
+    pub after-announce : (m p : ℕ) → elem p (R .grid (next R (b .at)) m) ≡ true → Running R (acceptedCall R (announce m p) h) (announceBody b m p)
     unfolding acceptedCall announceBody key
     after-announce m p g =
         record {

@@ -127,12 +127,12 @@ module _ (R : Rules) where
         (λ t. rw t)
 
     still : (others : List (ℕ × ℕ)) (n q : ℕ) → (m ≡ n → p ≡ q → ⊥)
-        → firstOf (announceCauses R b others n q) ≡ 0 → firstOf (announceCauses R (announceBody R b m p) (others ++ ((m, p) ∷ [])) n q) ≡ 0
+        → firstOf (announceCauses R b others n q) ≡ 0 → firstOf (announceCauses R (announceBody b m p) (others ++ ((m, p) ∷ [])) n q) ≡ 0
     unfolding announceCauses announceBody spanLow spanHigh
     still others n q ne z = rw (waitingOf-append n q others ((m, p) ∷ []), other n q ne, or-false (elem q (waitingOf n others))) z
 
     same-causes : (others : List (ℕ × ℕ)) (n q : ℕ) → firstOf (announceCauses R b others n q) ≡ 0
-        → firstOf (announceCauses R (announceBody R b m p) others n q) ≡ 0
+        → firstOf (announceCauses R (announceBody b m p) others n q) ≡ 0
     unfolding announceCauses announceBody spanLow spanHigh
     same-causes others n q z = z
 
@@ -152,18 +152,18 @@ module _ (R : Rules) where
 
     -- each that waits is still accepted beside the others and one more, which none of them is
     all-still : (past ws : List (ℕ × ℕ)) → firstOf (announceCauses R b (past ++ ws) m p) ≡ 0 → waitingOk R b past ws ≡ true
-        → waitingOk R (announceBody R b m p) past (ws ++ ((m, p) ∷ [])) ≡ true
+        → waitingOk R (announceBody b m p) past (ws ++ ((m, p) ∷ [])) ≡ true
     unfolding waitingOk
     all-still past [] z k = and-i (eq-eqb _ 0 (same-causes (past ++ []) m p z)) refl
     all-still past (w ∷ ws) z k =
-        let here : firstOf (announceCauses R (announceBody R b m p) (past ++ (ws ++ ((m, p) ∷ []))) (w .0) (w .1)) ≡ 0 =
+        let here : firstOf (announceCauses R (announceBody b m p) (past ++ (ws ++ ((m, p) ∷ []))) (w .0) (w .1)) ≡ 0 =
         rw (← append-assoc past ws ((m, p) ∷ []))
         (still (past ++ ws) (w .0) (w .1) (differs past w ws (not-among (past ++ w ∷ ws) z)) (eqb-true _ 0 (and-l _ _ k))) in
         and-i (eq-eqb _ 0 here)
         (all-still (past ++ (w ∷ [])) ws (rw (append-assoc past (w ∷ []) ws) z)
         (and-r (eqb (firstOf (announceCauses R b (past ++ ws) (w .0) (w .1))) 0) _ k))
 
-    sound-announce : Sound R b → firstOf (announceCauses R b (b .waiting) m p) ≡ 0 → leb 32 (length (b .waiting)) ≡ false → Sound R (announceBody R b m p)
+    sound-announce : Sound R b → firstOf (announceCauses R b (b .waiting) m p) ≡ 0 → leb 32 (length (b .waiting)) ≡ false → Sound R (announceBody b m p)
     unfolding announceBody
     sound-announce v z room = record {
       session-day = v .session-day;

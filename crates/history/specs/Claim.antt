@@ -10,7 +10,7 @@ use lib.ListN.{length, drop, replicate}
 use Rattle.rules.specs.Rules.{Moment, Rules}
 use Rattle.rules.specs.Calls.{Call}
 use Rattle.register.specs.Rows.{Row}
-use Rattle.register.specs.Bytes.{registerLength, mostRows, at16, readRows}
+use Rattle.register.specs.Bytes.{registerLength, mostRows, rowsFrom, at16, readRows}
 use Rattle.listing.specs.Calls.{numberAt, afterAt}
 use Rattle.history.specs.History.{History, rowsTold}
 
@@ -39,7 +39,7 @@ rowTold r = (r .month, r .price, r .entry .first)
 
 -- the rows of a register's bytes, without origins
 unfoldable pub rowsIn : List ℕ → List (ℕ × ℕ × ℕ)
-rowsIn bs = map rowTold (readRows (at16 bs 4) (drop 136 bs))
+rowsIn bs = map rowTold (readRows (at16 bs 4) (drop rowsFrom bs))
 
 -- ascending by month, then price, behind a month and a price
 unfoldable pub ascendFrom : ℕ → ℕ → List (ℕ × ℕ × ℕ) → Bool

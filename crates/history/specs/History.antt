@@ -22,7 +22,7 @@ pub record History : Type 0 where
 unfoldable pub blank : History
 blank = record { at = none; waiting = []; low = λ m. 0; high = λ m. 0; first = λ m p. none }
 
--- the waiting prices of a month
+-- the waiting prices of a month. This and `between` are said for the register too; the history names nothing of it.
 unfoldable pub awaited : List (ℕ × ℕ) → ℕ → List ℕ
 awaited [] m = []
 awaited (w ∷ ws) m = cond (eqb (w .0) m) (w .1 ∷ awaited ws m) (awaited ws m)
@@ -59,7 +59,8 @@ module _ (R : Rules) where
   unfoldable pub highAfter : History → Moment → Moment → ℕ → ℕ → ℕ
   highAfter h e x c m = cond (elem m (R .live e)) (greatestOf (h .high m) (takenIn h x c m)) (R .needHigh x true m c)
 
-  -- session: its day becomes the day; months no longer live are struck out; then none waits
+  -- session: its day becomes the day; months no longer live are struck out, of which nobody asks lowest and highest any more; then
+  -- none waits
   unfoldable pub onSession : Moment → Moment → ℕ → History → History
   onSession e x c h =
       let struck : ℕ → ℕ → Option ℕ = λ m p. cond (elem m (R .live x)) (h .first m p) none in

@@ -89,7 +89,7 @@ pub record Ends (m : Plan) (next end p r : ℕ) : Type 0 where
   pub held : (q : ℕ) → p ≤ q → q < r → within (m .held .low) (m .held .high) q ≡ within (m .held .low) (m .held .high) p
   pub wide : (q : ℕ) → p ≤ q → q < r → within (m .wide .low) (m .wide .high) q ≡ within (m .wide .low) (m .wide .high) p
 
--- what a ladder's writer asks: a span of the grid, and room for its rows
+-- what a ladder's writer asks of its span: both ends on the grid
 pub record Spanned (m : Plan) : Type 0 where
   pub low-on : elem (m .span .low) (gridOf (m .tier)) ≡ true
   pub high-on : elem (m .span .high) (gridOf (m .tier)) ≡ true

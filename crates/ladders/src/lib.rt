@@ -9,7 +9,7 @@ ghost use Prim.Native.Nat.{_+_, _*_, _≤_, _<_};
 ghost use lib.ListN.{length, take, drop, getD, replicate};
 ghost use Rattle.base.specs.Lists.{within};
 ghost use Rattle.dates.specs.Months.{monthCount};
-ghost use Rattle.register.specs.Bytes.{registerLength, rowsBytes, padded};
+ghost use Rattle.register.specs.Bytes.{registerLength, mostRows, rowsFrom, rowsBytes, padded};
 ghost use Rattle.ladders.specs.Writing.{rowsIn, rowBytes, pricesIn, addedOrigin, nextPrice, ladderBy, leftBy, Ends, Alike, Spanned, laddersFrom, strikesAt, planAt, Ready};
 
 // How one month's ladder is written.
@@ -255,10 +255,10 @@ pub fn write_ladders(
 ) -> usize
     requires { ⌜ length (now register) ≡ registerLength ⌝ }
     requires { ⌜ Ready (getD months 0 0) (planAt day origin months held wide spans) ⌝ }
-    ensures { λ r. ⌜ r ≡ 136 + 8 * length (laddersFrom (planAt day origin months held wide spans) 0 6 (rowsIn (now (old .entry)))) ⌝ }
-    ensures { λ _. ⌜ now (register .exit) ≡ take 136 (now (register .entry)) ++ padded 11128 (rowsBytes (laddersFrom (planAt day origin months held wide spans) 0 6 (rowsIn (now (old .entry))))) ⌝ }
+    ensures { λ r. ⌜ r ≡ rowsFrom + 8 * length (laddersFrom (planAt day origin months held wide spans) 0 6 (rowsIn (now (old .entry)))) ⌝ }
+    ensures { λ _. ⌜ now (register .exit) ≡ take rowsFrom (now (register .entry)) ++ padded (8 * mostRows) (rowsBytes (laddersFrom (planAt day origin months held wide spans) 0 6 (rowsIn (now (old .entry))))) ⌝ }
 {
-    let mut at: usize = 136;
+    let mut at = register::ROWS;
     let mut from: usize = 0;
     let mut i: usize = 0;
     while i < 6 {

@@ -1,10 +1,11 @@
 // The six spans of a start or a session, each the lowest and the highest price, in the order of the live months.
+use register::PLACES;
 ghost use mathlib.Core.Path.{_≡_};
 ghost use Prim.Native.Nat.{_≤_, min, max};
 ghost use lib.ListN.{length, getD, drop};
 ghost use Rattle.dates.specs.Months.{monthCount};
 ghost use Rattle.grid.specs.Grid.{lowestClose, highestClose};
-ghost use Rattle.register.specs.Bytes.{registerLength, readPlaces};
+ghost use Rattle.register.specs.Bytes.{registerLength, placesFrom, readPlaces};
 ghost use Rattle.register.specs.Register.{mostWaiting};
 ghost use Rattle.register.specs.Scan.{spanIn};
 ghost use Rattle.ladders.specs.Spans.{heldSpans, closePair, closeSpans, announcedPair, newPair, newSpans, sameSpans};
@@ -85,14 +86,14 @@ pub fn close_spans(months: [u16; 6], held: [[u16; 2]; 6], close: u32) -> [[u16; 
 // A span that takes in what waits for the month, of n announcements.
 fn with_announced(register: &[u8], n: usize, month: u16, span: [u16; 2]) -> [u16; 2]
     requires { ⌜ (length (now register) ≡ registerLength) × (n ≤ mostWaiting) ⌝ }
-    ensures { λ r. ⌜ r ≡ announcedPair (readPlaces n (drop 8 (now (register .entry)))) month span ⌝ }
+    ensures { λ r. ⌜ r ≡ announcedPair (readPlaces n (drop placesFrom (now (register .entry)))) month span ⌝ }
 {
     let mut low = span[0];
     let mut high = span[1];
     let mut k: usize = 0;
     while k < n {
-        if register::word(register, 8 + 4 * k) == month {
-            let price = register::word(register, 8 + 4 * k + 2);
+        if register::word(register, PLACES + 4 * k) == month {
+            let price = register::word(register, PLACES + 4 * k + 2);
             low = lower(price, low);
             high = higher(price, high);
         }
@@ -103,7 +104,7 @@ fn with_announced(register: &[u8], n: usize, month: u16, span: [u16; 2]) -> [u16
 
 fn new_pair(register: &[u8], n: usize, month: u16, held: [u16; 2], wide: [u16; 2]) -> [u16; 2]
     requires { ⌜ (length (now register) ≡ registerLength) × (n ≤ mostWaiting) ⌝ }
-    ensures { λ r. ⌜ r ≡ newPair (readPlaces n (drop 8 (now (register .entry)))) month held wide ⌝ }
+    ensures { λ r. ⌜ r ≡ newPair (readPlaces n (drop placesFrom (now (register .entry)))) month held wide ⌝ }
 {
     if held[0] == 0 {
         wide
@@ -121,7 +122,7 @@ pub fn new_spans(
     wide: [[u16; 2]; 6],
 ) -> [[u16; 2]; 6]
     requires { ⌜ (length (now register) ≡ registerLength) × (n ≤ mostWaiting) ⌝ }
-    ensures { λ r. ⌜ r ≡ newSpans (readPlaces n (drop 8 (now (register .entry)))) months held wide ⌝ }
+    ensures { λ r. ⌜ r ≡ newSpans (readPlaces n (drop placesFrom (now (register .entry)))) months held wide ⌝ }
 {
     let mut spans = wide;
     let mut i: usize = 0;

@@ -21,6 +21,10 @@ unfoldable pub kept : Option Entry → Entry → Entry
 kept none e = e
 kept (some r) e = r
 
+-- an announcement joins those waiting
+unfoldable pub announceBody : Body → ℕ → ℕ → Body
+announceBody b m p = record { at = b .at; waiting = b .waiting ++ ((m, p) ∷ []); rows = b .rows }
+
 module _ (R : Rules) where
   -- ---- spans at a session: the month's span of the session before, widened by the close alone
   unfoldable pub closeLow : Body → Moment → ℕ → ℕ → ℕ
@@ -62,9 +66,6 @@ module _ (R : Rules) where
     rows = rowsOf (R .live x) (listed R x (newLow b x c) (newHigh b x c))
         (λ m p. kept (find m p (b .rows)) (newEntry (x .day) (newOrigin b x c m p)));
   }
-
-  unfoldable pub announceBody : Body → ℕ → ℕ → Body
-  announceBody b m p = record { at = b .at; waiting = b .waiting ++ ((m, p) ∷ []); rows = b .rows }
 
   -- ---- the number of a call on an empty or well-formed register: its own causes in the table's order
 

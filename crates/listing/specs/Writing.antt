@@ -3,7 +3,7 @@
 use mathlib.Core.Path.{_≡_}
 use mathlib.Core.Bool.{true, cond, not}
 use mathlib.Core.List.{List, [], _∷_}
-use Prim.Native.Nat.{ℕ, suc, _-_, _≤_}
+use Prim.Native.Nat.{ℕ, suc, _-_, _*_, _≤_}
 use lib.Dec.{eqb, ltb}
 use lib.ListN.{length, getD, replicate}
 use Rattle.base.specs.Causes.{cause, firstOf}
@@ -14,7 +14,7 @@ use Rattle.grid.specs.Numbers.{numberOf}
 use Rattle.rules.specs.Rules.{Rules, lastFirstMonth}
 use Rattle.rules.specs.Rulebook.{rules}
 use Rattle.register.specs.Rows.{Row}
-use Rattle.register.specs.Register.{Body, Reg, running}
+use Rattle.register.specs.Register.{mostWaiting, Body, Reg, running}
 use Rattle.register.specs.Bytes.{registerLength, two, bodyOf, allZero}
 use Rattle.listing.specs.Listing.{sessionBody}
 use Rattle.listing.specs.Calls.{rowsHeld, added, removed}
@@ -40,7 +40,7 @@ quiet day rows = running (record { at = record { day = day }; waiting = []; rows
 
 -- its head: status, none waiting, day, row count, two zeros, and no announcement
 unfoldable pub headBytes : ℕ → ℕ → List ℕ
-headBytes day count = 1 ∷ 0 ∷ two day (two count (0 ∷ 0 ∷ replicate 128 0))
+headBytes day count = 1 ∷ 0 ∷ two day (two count (0 ∷ 0 ∷ replicate (4 * mostWaiting) 0))
 
 -- a day and a close that are taken
 pub record Taken (calendar : List ℕ) (day close : ℕ) : Type 0 where

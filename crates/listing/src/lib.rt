@@ -15,7 +15,7 @@ ghost use Rattle.grid.specs.Numbers.{numberOf};
 ghost use Rattle.rules.specs.Rulebook.{rules};
 ghost use Rattle.rules.specs.Calls as Call;
 ghost use Rattle.register.specs.Register.{empty, running};
-ghost use Rattle.register.specs.Bytes.{registerLength, at16, bytesOf, bodyOf};
+ghost use Rattle.register.specs.Bytes.{registerLength, rowsFrom, at16, bytesOf, bodyOf};
 ghost use Rattle.register.specs.Spans.{runsWell, standingSpans};
 ghost use Rattle.ladders.specs.Writing.{rowsIn, laddersFrom, planAt, Ready};
 ghost use Rattle.listing.specs.Listing.{number, startBody};
@@ -94,7 +94,7 @@ fn session_cause(calendar: &[u8], register: &[u8], day: u32, close: u32) -> u16
 // Writes status, day and row count, and clears the announcements.
 fn write_head(register: &mut [u8], day: u16, count: u16)
     requires { ⌜ length (now register) ≡ registerLength ⌝ }
-    ensures { λ _. ⌜ now (register .exit) ≡ headBytes day count ++ drop 136 (now (register .entry)) ⌝ }
+    ensures { λ _. ⌜ now (register .exit) ≡ headBytes day count ++ drop rowsFrom (now (register .entry)) ⌝ }
 {
     ladders::clear(&mut register[PLACES..ROWS]);
     register[0] = 1;
@@ -187,10 +187,10 @@ fn relist(
     wide: [[u16; 2]; 6],
     spans: [[u16; 2]; 6],
 ) -> u16
-    requires { ⌜ (length (now register) ≡ registerLength) × (dropped ≤ rows) × (136 + 8 * rows ≤ registerLength) ⌝ }
+    requires { ⌜ (length (now register) ≡ registerLength) × (dropped ≤ rows) × (rowsFrom + 8 * rows ≤ registerLength) ⌝ }
     requires { ⌜ Ready (getD months 0 0) (planAt day 1 months held wide spans) ⌝ }
-    ensures { λ r. ⌜ r ≡ length (laddersFrom (planAt day 1 months held wide spans) 0 6 (rowsIn (take (8 * (rows - dropped)) (drop (136 + 8 * dropped) (now (register .entry)))))) ⌝ }
-    ensures { λ _. ⌜ now (register .exit) ≡ bytesOf (quiet day (laddersFrom (planAt day 1 months held wide spans) 0 6 (rowsIn (take (8 * (rows - dropped)) (drop (136 + 8 * dropped) (now (register .entry))))))) ⌝ }
+    ensures { λ r. ⌜ r ≡ length (laddersFrom (planAt day 1 months held wide spans) 0 6 (rowsIn (take (8 * (rows - dropped)) (drop (rowsFrom + 8 * dropped) (now (register .entry)))))) ⌝ }
+    ensures { λ _. ⌜ now (register .exit) ≡ bytesOf (quiet day (laddersFrom (planAt day 1 months held wide spans) 0 6 (rowsIn (take (8 * (rows - dropped)) (drop (rowsFrom + 8 * dropped) (now (register .entry))))))) ⌝ }
 {
     let copy = copied(register);
     let from = ROWS + 8 * (dropped as usize);

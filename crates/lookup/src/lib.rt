@@ -1,5 +1,5 @@
 // Single questions about days, months, a calendar and the grids: total functions over any bytes and any 32-bit numbers.
-// The demo asks them, and the host tests compare every answer with another implementation.
+// The console asks them, and the host tests compare every answer with another implementation.
 use base::Tier;
 use dates::DAYS;
 use dates::MONTHS;

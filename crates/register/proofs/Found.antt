@@ -24,8 +24,8 @@ use Rattle.base.proofs.Rising.{select-rises}
 use Rattle.rules.proofs.RulebookLaws.{grid-rises}
 use Rattle.register.specs.Rows.{Entry, newEntry, Row, ladder, rowsOf, entryOk}
 use Rattle.register.specs.Register.{Body, spanLow, spanHigh, sameKeys, entriesOk}
-use Rattle.register.specs.Spans.{spansOf}
-use Rattle.register.specs.Scan.{fitting, climbed, headPrice, ladderRows, noSpans, ladderSpans}
+use Rattle.register.specs.Spans.{noSpans, spansOf}
+use Rattle.register.specs.Scan.{fitting, climbed, headPrice, ladderRows, ladderSpans}
 use Rattle.register.proofs.RowLaws.{rowsOf-same}
 use Rattle.register.proofs.Held.{ladderOf, Held, least-held, greatest-held, Apart, live-apart, keyed, number-of}
 use Rattle.register.proofs.Runs.{next-price, next-on, between, run-end, run-is}

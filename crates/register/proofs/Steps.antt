@@ -19,7 +19,8 @@ use Rattle.grid.specs.Grid.{gridOf}
 use Rattle.grid.specs.Numbers.{stride}
 use Rattle.register.specs.Rows.{Row, entryOk}
 use Rattle.register.specs.Bytes.{at16, readPlaces}
-use Rattle.register.specs.Scan.{rowAt, rowsAt, bandStep, bandEnd, fitting, climbed, headPrice, ladderRows, noSpans, ladderSpans, placesAt}
+use Rattle.register.specs.Spans.{noSpans}
+use Rattle.register.specs.Scan.{rowAt, rowsAt, bandStep, bandEnd, fitting, climbed, headPrice, ladderRows, ladderSpans, placesAt}
 
 -- ---- a loop over n things, k bytes each, from a byte on: what is left at its start, and after one more
 pub start-of : {X : Type 0} (F : ℕ → ℕ → X) (k n at : ℕ) → F n at ≡ F (n - 0) (at + k * 0)

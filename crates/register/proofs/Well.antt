@@ -24,8 +24,8 @@ use Rattle.register.specs.Rows.{newEntry, Row, row, rowsOf, pricesOf, en
 use Rattle.register.specs.Register.{mostWaiting, Body, running, spanLow, spanHigh, sameKeys, nonEmpty, entriesOk, listed, waitingOk, wellFormed}
 use Rattle.register.specs.Bytes.{at16, readRows, bodyOf, rowsBytes, bodyBytes, bytesOf, allZero, sameBytes, regOf, inLayout}
 use Rattle.register.specs.Opening.{emptyOrWell, stands}
-use Rattle.register.specs.Spans.{runsWell, spansOf, standingSpans}
-use Rattle.register.specs.Scan.{Keeps, rowAt, rowsAt, noSpans, ladderSpans}
+use Rattle.register.specs.Spans.{noSpans, runsWell, spansOf, standingSpans}
+use Rattle.register.specs.Scan.{Keeps, rowAt, rowsAt, ladderSpans}
 use Rattle.register.proofs.RowLaws.{rowsOf-same}
 use Rattle.register.proofs.ByteLaws.{same-self}
 use Rattle.register.proofs.Held.{ladderOf, Held, there, least-held, greatest-held, Facts, facts, live-apart, held}

@@ -6,7 +6,7 @@ use Prim.Native.Nat.{ℕ, zero, suc, _+_, _-_, _*_, _/_, _%_}
 use lib.Dec.{eqb}
 use lib.ListN.{length, getD, drop, replicate}
 use Rattle.register.specs.Rows.{Row, row}
-use Rattle.register.specs.Register.{Body, Reg, empty, running}
+use Rattle.register.specs.Register.{mostWaiting, Body, Reg, empty, running}
 
 abbrev pub registerLength : ℕ
 registerLength = 11264
@@ -14,6 +14,13 @@ registerLength = 11264
 -- how many rows may stand
 abbrev pub mostRows : ℕ
 mostRows = 1391
+
+-- where the announcements and the rows begin
+abbrev pub placesFrom : ℕ
+placesFrom = 8
+
+abbrev pub rowsFrom : ℕ
+rowsFrom = 136
 
 -- ---- written
 
@@ -41,7 +48,7 @@ unfoldable pub bodyBytes : Body → List ℕ
 bodyBytes b =
     1
     ∷ length (b .waiting)
-    ∷ two (b .at .day) (two (length (b .rows)) (0 ∷ 0 ∷ (padded 128 (placesBytes (b .waiting)) ++ padded 11128 (rowsBytes (b .rows)))))
+    ∷ two (b .at .day) (two (length (b .rows)) (0 ∷ 0 ∷ (padded (4 * mostWaiting) (placesBytes (b .waiting)) ++ padded (8 * mostRows) (rowsBytes (b .rows)))))
 
 unfoldable pub bytesOf : Reg → List ℕ
 bytesOf empty = replicate registerLength 0
@@ -64,8 +71,8 @@ readRows (suc n) bs = row (at16 bs 0) (at16 bs 2) (record { first = at16 bs 4; o
 unfoldable pub bodyOf : List ℕ → Body
 bodyOf bs = record {
   at = record { day = at16 bs 2 };
-  waiting = readPlaces (getD bs 1 0) (drop 8 bs);
-  rows = readRows (at16 bs 4) (drop 136 bs);
+  waiting = readPlaces (getD bs 1 0) (drop placesFrom bs);
+  rows = readRows (at16 bs 4) (drop rowsFrom bs);
 }
 
 unfoldable pub allZero : List ℕ → Bool

@@ -18,11 +18,12 @@ monthRows m [] = []
 monthRows m (r ∷ rs) = cond (eqb (r .month) m) (r ∷ monthRows m rs) (monthRows m rs)
 
 module _ (R : Rules) where
-  -- a register that is empty, or keeps the layout and is well formed
+  -- a register that is empty or well formed
   unfoldable pub emptyOrWell : Reg → Bool
   emptyOrWell empty = true
   emptyOrWell (running b) = wellFormed R b
 
+  -- bytes that keep the layout, and such a register
   unfoldable pub stands : List ℕ → Bool
   stands bs = inLayout bs && emptyOrWell (regOf bs)
 

@@ -29,7 +29,7 @@ unfoldable pub waitingOf : ℕ → List (ℕ × ℕ) → List ℕ
 waitingOf m [] = []
 waitingOf m (w ∷ ws) = cond (eqb m (w .0)) (w .1 ∷ waitingOf m ws) (waitingOf m ws)
 
--- the month's span, 01's word for its lowest and its highest price
+-- the lowest and the highest price of a month's rows: its span, since every required price stands (DECISIONS 19)
 unfoldable pub spanLow : Body → ℕ → ℕ
 spanLow b m = least (pricesOf m (b .rows))
 

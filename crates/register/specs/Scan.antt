@@ -17,7 +17,8 @@ use Rattle.grid.specs.Numbers.{numberOf, stride}
 use Rattle.rules.specs.Rules.{Rules, lastFirstMonth}
 use Rattle.register.specs.Rows.{Row, row, entryOk}
 use Rattle.register.specs.Register.{mostWaiting}
-use Rattle.register.specs.Bytes.{registerLength, mostRows, at16, allZero, readPlaces}
+use Rattle.register.specs.Bytes.{registerLength, placesFrom, rowsFrom, mostRows, at16, allZero, readPlaces}
+use Rattle.register.specs.Spans.{noSpans}
 use Rattle.register.specs.Opening.{rowsNumber, rowsPart}
 use Rattle.register.specs.declared.Place.{Place}
 
@@ -33,8 +34,8 @@ pub record Keeps (bs : List ℕ) : Type 0 where
   pub six : getD bs 6 0 ≡ 0
   pub seven : getD bs 7 0 ≡ 0
   pub count : at16 bs 4 ≤ mostRows
-  pub places : allZero (take (136 - (8 + 4 * getD bs 1 0)) (drop (8 + 4 * getD bs 1 0) bs)) ≡ true
-  pub behind : allZero (drop (136 + 8 * at16 bs 4) bs) ≡ true
+  pub places : allZero (take (rowsFrom - (placesFrom + 4 * getD bs 1 0)) (drop (placesFrom + 4 * getD bs 1 0) bs)) ≡ true
+  pub behind : allZero (drop (rowsFrom + 8 * at16 bs 4) bs) ≡ true
 
 -- ---- rows
 
@@ -71,9 +72,6 @@ headPrice (r ∷ rs) = r .price
 -- how many rows stand first that are a month's ladder on its tier's grid
 unfoldable pub ladderRows : ℕ → ℕ → Tier → List Row → ℕ
 ladderRows day m t rs = cond (elem (headPrice rs) (gridOf t)) (climbed day m (stride t) (headPrice rs) rs) 0
-
-abbrev pub noSpans : List (List ℕ)
-noSpans = replicate 6 (0 ∷ 0 ∷ [])
 
 -- the spans found before, and those of some months whose ladders are the rows; where they are not, zeros
 unfoldable pub ladderSpans : ℕ → ℕ → List (List ℕ) → List ℕ → List Row → List (List ℕ)

@@ -19,9 +19,13 @@ unfoldable pub spansOf : Body → List ℕ → List (List ℕ)
 spansOf b [] = []
 spansOf b (m ∷ ms) = (spanLow b m ∷ spanHigh b m ∷ []) ∷ spansOf b ms
 
--- the six spans of a register that runs and is well formed; of any other, zeros, which no grid has
+-- zeros, which no grid has
+abbrev pub noSpans : List (List ℕ)
+noSpans = replicate 6 (0 ∷ 0 ∷ [])
+
+-- the six spans of a register that runs and is well formed; of any other, zeros
 unfoldable pub standingSpans : List ℕ → List ℕ → List (List ℕ)
 standingSpans calendar bs =
     cond (runsWell calendar bs)
     (spansOf (bodyOf bs) (liveMonths (firstLive calendar (at16 bs 2))))
-    (replicate 6 (0 ∷ 0 ∷ []))
+    noSpans

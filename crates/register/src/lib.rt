@@ -15,7 +15,7 @@ ghost use Rattle.grid.specs.Numbers.{numberOf};
 ghost use Rattle.rules.specs.Rules.{lastFirstMonth};
 ghost use Rattle.rules.specs.Rulebook.{rules};
 ghost use Rattle.register.specs.Register.{mostWaiting, waitingOf, waitingOk};
-ghost use Rattle.register.specs.Bytes.{registerLength, at16, allZero, bodyOf};
+ghost use Rattle.register.specs.Bytes.{registerLength, rowsFrom, at16, allZero, bodyOf};
 ghost use Rattle.register.specs.Opening.{rowsNumber, rowsPart};
 ghost use Rattle.register.specs.Spans.{spansOf, standingSpans};
 ghost use Rattle.register.specs.Scan.{Tells, Keeps, rowAt, rowsAt, bandStep, bandEnd, fitting, climbed, ladderRows, ladderSpans, placesAt, placeOf, spanIn, causesAt, openingOf, ladderSize, noRows, monthPlace, RowsPlace};
@@ -187,8 +187,8 @@ fn ladder(register: &[u8], at: usize, rows: usize, day: u16, month: u16, tier: T
 
 // The six spans, where the rows are the live months' ladders one behind the other and no other row stands; else zeros.
 fn ladders(register: &[u8], rows: usize, day: u16, first: u16) -> [[u16; 2]; 6]
-    requires { ⌜ (136 + 8 * rows ≤ length (now register)) × (first ≤ lastFirstMonth) ⌝ }
-    ensures { λ r. ⌜ r ≡ ladderSpans day first [] (liveMonths first) (rowsAt (now (register .entry)) 136 rows) ⌝ }
+    requires { ⌜ (rowsFrom + 8 * rows ≤ length (now register)) × (first ≤ lastFirstMonth) ⌝ }
+    ensures { λ r. ⌜ r ≡ ladderSpans day first [] (liveMonths first) (rowsAt (now (register .entry)) rowsFrom rows) ⌝ }
 {
     let months = calendar::live_months(first);
     let mut spans = [[0u16; 2]; 6];
@@ -447,7 +447,7 @@ fn ladder_size(tier: Tier, low: u16, high: u16) -> usize
 // The place of a month's rows, from the six spans; 26 where the month is not live.
 fn month_place(first: u16, spans: [[u16; 2]; 6], month: u32) -> Place
     requires { ⌜ (first ≤ lastFirstMonth) × ((i : ℕ) → i < 6 → numberOf (getD (getD spans i []) 0 0) ≤ numberOf (getD (getD spans i []) 1 0)) ⌝ }
-    ensures { λ r. ⌜ r ≡ monthPlace first month 136 (liveMonths first) spans ⌝ }
+    ensures { λ r. ⌜ r ≡ monthPlace first month rowsFrom (liveMonths first) spans ⌝ }
 {
     let months = calendar::live_months(first);
     let mut at = ROWS;

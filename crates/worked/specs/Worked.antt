@@ -38,7 +38,7 @@ oneMonth t u = record {
 -- its rows after a start at a close, some announcements, and a session at another close
 unfoldable pub announced : Rules → Body → List ℕ → Body
 announced R b [] = b
-announced R b (p ∷ ps) = announced R (announceBody R b 300 p) ps
+announced R b (p ∷ ps) = announced R (announceBody b 300 p) ps
 
 unfoldable pub rowsAfter : Tier → Tier → ℕ → List ℕ → ℕ → List Row
 rowsAfter t u c ps d =

@@ -5,7 +5,7 @@ use native.Mathlib.Omega.{arith}
 use borrow.Author.Needs.{needs}
 use Rattle.calendar.specs.declared.Checked.{Checked}
 use Rattle.register.specs.Scan.{openingOf}
-use Rattle.register.proofs.Well.{standing-none, standing-some, all-stand}
+use Rattle.register.proofs.Well.{runs-i, standing-none, standing-some, all-stand}
 use Rattle.register.proofs.Opens.{opens}
 use Rattle.announcing.proofs.Says.{by-opening, by-15, by-own, fits, room, accepts}
 use Rattle.announcing.proofs.announce.Statement.{statement}
@@ -60,7 +60,7 @@ announce-cause-requires c κs =
     let a = o .before .before .before .before .args in
     let opened = opens (a .calendar .now) (a .register .now) (sym (ap (λ (x : Checked). x .number) (o .opening .ensures)) ∙ e .if1 .left) in
     let r = standing-some (a .calendar .now) (a .register .now) (λ q. w .if2 .left (rw (w .before .before .standing .ensures) q)) in
-    ((opened .0, opened .1), (r, w .before .before .standing .ensures ∙ sym (all-stand (a .calendar .now) (a .register .now) r)))
+    ((opened .0, opened .1), (runs-i (a .calendar .now) (a .register .now) r, w .before .before .standing .ensures ∙ sym (all-stand (a .calendar .now) (a .register .now) r)))
 
 same-length-3 : tie.Need-same-length-3
 same-length-3 c = search needs

@@ -5,7 +5,7 @@ use native.Mathlib.Omega.{arith}
 use borrow.Author.Needs.{needs}
 use Rattle.calendar.specs.Calendar.{nextSession}
 use Rattle.calendar.specs.Live.{firstLive}
-use Rattle.register.proofs.Well.{run-first}
+use Rattle.register.proofs.Well.{runs, run-first}
 use Rattle.register.proofs.Waiting.{live-top}
 use Rattle.announcing.proofs.Says.{day-in, few-wait, gathered, own-refusal, own-full, own-none}
 use Rattle.announcing.proofs.announce_cause.Statement.{statement}
@@ -17,12 +17,12 @@ word-requires c κs = search needs
 first-live-requires : tie.Need-first-live-requires
 first-live-requires c κs =
     let s = c .before .before .before in
-    (omega (arith, day-in _ _ (s .pre .0 .1) (s .pre .1 .0), c .word .ensures), s .pre .0 .0)
+    (omega (arith, day-in _ _ (s .pre .0 .1) (runs _ _ (s .pre .1 .0)), c .word .ensures), s .pre .0 .0)
 
 next-first-requires : tie.Need-next-first-requires
 next-first-requires c κs =
     let s = c .before .before .before .before in
-    (omega (arith, day-in _ _ (s .pre .0 .1) (s .pre .1 .0), c .before .word .ensures), s .pre .0 .0)
+    (omega (arith, day-in _ _ (s .pre .0 .1) (runs _ _ (s .pre .1 .0)), c .before .word .ensures), s .pre .0 .0)
 
 shared-slice-read-places : tie.Need-shared-slice-read-places
 shared-slice-read-places c = search needs
@@ -33,12 +33,12 @@ cast-places c = omega (arith, c .shared-slice-known3 .given 1)
 waits-requires : tie.Need-waits-requires
 waits-requires c κs =
     let s = c .before .before .before .before .before .before in
-    omega (arith, few-wait _ _ (s .pre .0 .1) (s .pre .1 .0))
+    omega (arith, few-wait _ _ (s .pre .0 .1) (runs _ _ (s .pre .1 .0)))
 
 refusal-requires : tie.Need-refusal-requires
 refusal-requires c κs =
     let s = c .before .before .before .before .before .before .before in
-    let first = run-first (s .args .calendar .now) (s .args .register .now) (s .pre .0 .1) (s .pre .1 .0) in (
+    let first = run-first (s .args .calendar .now) (s .args .register .now) (s .pre .0 .1) (runs _ _ (s .pre .1 .0)) in (
       c .before .before .before .first-live .ensures,
       omega (arith, ap (firstLive (s .args .calendar .now)) (c .before .before .before .before .word .ensures), c .before .before .before .first-live .ensures),
       omega (arith, c .before .before .next-first .ensures, live-top (s .args .calendar .now) (nextSession (s .args .calendar .now) (c .before .before .before .before .word .result))),
