@@ -18,7 +18,8 @@ use Rattle.rules.specs.Rules.{Moment, Rules}
 use Rattle.rules.specs.Calls.{Call, start, session, announce}
 use Rattle.rules.proofs.Laws.{Laws}
 use Rattle.register.specs.Rows.{Entry, newEntry, entryOk, Row, ladder, rowsOf, find, pricesOf}
-use Rattle.register.specs.Register.{Body, Reg, empty, running, waitingOf, spanLow, spanHigh, sameKeys, nonEmpty, entriesOk, listed, announceCauses, waitingOk, wellFormed}
+use Rattle.register.specs.Register.{Body, Reg, empty, running, waitingOf, spanLow, spanHigh, sameKeys, entriesOk, listed, announceCauses, waitingOk, wellFormed}
+use Rattle.register.proofs.Well.{all-some}
 use Rattle.register.proofs.RowLaws.{entry-later, entry-new, rowsOf-same}
 use Rattle.listing.specs.Listing.{closeLow, closeHigh, newLow, newHigh, kept, newOrigin, startBody, sessionBody, announceBody, number, accepted}
 use Rattle.history.specs.History.{History, between}
@@ -44,11 +45,6 @@ unfolding rowsOf sameKeys
 same-rows [] G f g = refl
 same-rows (m ∷ ms) G f g =
     same-ladder m (f m) (g m) (G m) (rowsOf ms G f) (rowsOf ms G g) ∙ same-rows ms G f g
-
-non-empty-i : (b : Body) (L : List ℕ) → ((m : ℕ) → elem m L ≡ true → elem (spanLow b m) (pricesOf m (b .rows)) ≡ true) → nonEmpty b L ≡ true
-unfolding nonEmpty
-non-empty-i b [] h = refl
-non-empty-i b (m ∷ ms) h = and-i (h m (elem-here m ms)) (non-empty-i b ms (λ n e. h n (elem-there n m ms e)))
 
 -- ---- first days and origins
 ok-ladder : (d m : ℕ) (f : ℕ → Entry) (ps : List ℕ) (xs : List Row) → ((p : ℕ) → entryOk d (f p) ≡ true)
@@ -96,7 +92,7 @@ module _ (R : Rules) where
         (and-i (v .good-at)
         (and-i (v .live-ok)
         (and-i keys
-        (and-i (non-empty-i b (R .live (b .at)) low-there)
+        (and-i (all-some b (R .live (b .at)) low-there)
         (and-i (v .rows-ok) (and-i (v .short) (v .waiting-ok)))))))
       where
         low-there : (m : ℕ) → elem m (R .live (b .at)) ≡ true → elem (spanLow b m) (pricesOf m (b .rows)) ≡ true

@@ -7,12 +7,12 @@ use mathlib.Core.List.{List, [], _∷_, _++_}
 use mathlib.Core.Option.{none, some}
 use Prim.Native.Nat.{ℕ, _≤_}
 use native.Mathlib.Omega.{arith}
-use lib.Dec.{leb, eqb}
+use lib.Dec.{leb, eqb, ltb}
 use lib.ListN.{length}
 use borrow.Author.Tests.{eqb-true, eq-eqb, ne-eqb}
 use Rattle.base.specs.Lists.{elem, select, within, least, greatest}
 use Rattle.base.proofs.Tests.{byLe, clash, and-l, and-r, and-i, or-e}
-use Rattle.base.proofs.ListLaws.{elem-here, elem-there, elem-select, within-i, within-l, within-r, least-is, greatest-is, greatest-P}
+use Rattle.base.proofs.ListLaws.{elem-here, elem-there, elem-select, within-i, within-l, within-r, least-is, least-P, greatest-is, greatest-P}
 use Rattle.base.proofs.Rising.{rises, rises-tail, rises-all, risesAll, select-rises}
 use Rattle.base.specs.declared.Tier.{Tier}
 use Rattle.calendar.specs.Live.{firstLive, liveMonths, tierOf}
@@ -166,13 +166,18 @@ unfolding greatest elem
 greatest-in x [] e = absurd (false≢true e)
 greatest-in x (y ∷ ys) e = greatest-P (λ (p : ℕ). elem p (y ∷ ys) ≡ true) y ys (elem-here y ys) (λ p q. elem-there p y ys q)
 
+least-in : (xs : List ℕ) → ltb 0 (length xs) ≡ true → elem (least xs) xs ≡ true
+unfolding least elem
+least-in [] e = absurd (false≢true e)
+least-in (y ∷ ys) e = least-P (λ (p : ℕ). elem p (y ∷ ys) ≡ true) y ys (elem-here y ys) (λ p q. elem-there p y ys q)
+
 row-of : (b : Body) (L : List ℕ) (m : ℕ) → nonEmpty b L ≡ true → elem m L ≡ true → elem (spanLow b m) (pricesOf m (b .rows)) ≡ true
-unfolding nonEmpty elem
+unfolding nonEmpty elem spanLow
 row-of b [] m h e = absurd (false≢true e)
 row-of b (n ∷ ns) m h e =
     or-e (eqb m n) _ e
-    (λ t. rw (eqb-true m n t) (and-l _ _ h))
-    (λ t. row-of b ns m (and-r (elem (spanLow b n) (pricesOf n (b .rows))) _ h) t)
+    (λ t. rw (eqb-true m n t) (least-in (pricesOf n (b .rows)) (and-l _ _ h)))
+    (λ t. row-of b ns m (and-r (ltb 0 (length (pricesOf n (b .rows)))) _ h) t)
 
 price-back : (i j : ℕ) → price i ≤ price j → i ≤ j
 price-back i j h = byLe i j (λ l. l) (λ l. let s = price-strict j i l in absurd (omega arith))

@@ -1,16 +1,16 @@
 -- A register stands where the scan of its bytes says so, and its spans are those that the scan finds.
 -- Assumes nothing.
 use mathlib.Core.Path.{_≡_, refl, sym, ap, _∙_}
-use mathlib.Core.Bool.{true, false, not, _&&_}
+use mathlib.Core.Bool.{true, false, not, _&&_, false≢true}
 use mathlib.Core.List.{List, [], _∷_, _++_}
 use mathlib.Core.Logic.{⊎-elim}
 use Prim.Native.Nat.{ℕ, zero, suc, _+_, _-_, _*_, _≤_, _<_}
 use native.Mathlib.Nat.{add-zero}
 use native.Mathlib.Omega.{arith}
-use lib.Dec.{leb}
+use lib.Dec.{leb, ltb}
 use lib.ListN.{length, getD, drop, replicate}
 use lib.Seq.{drop-drop, getD-drop}
-use borrow.Author.Tests.{le-leb, leb-true, not-true}
+use borrow.Author.Tests.{lt-ltb, le-leb, leb-true, not-true}
 use Rattle.base.specs.Lists.{elem, select, within, least, greatest}
 use Rattle.base.proofs.Tests.{byBool, and-l, and-r, and-i}
 use Rattle.base.proofs.ListLaws.{elem-here, elem-there, within-r}
@@ -134,10 +134,15 @@ first-low f b h z =
     let e : elem f (liveMonths f) ≡ true = elem-here f _ in
     omega (arith, least-held f (b .rows) h f e, h .low-on f e .from, price-line (h .low f))
 
-all-some : (b : Body) (ms : List ℕ) → ((m : ℕ) → elem m ms ≡ true → elem (spanLow b m) (pricesOf m (b .rows)) ≡ true) → nonEmpty b ms ≡ true
+some-in : (p : ℕ) (xs : List ℕ) → elem p xs ≡ true → ltb 0 (length xs) ≡ true
+unfolding elem
+some-in p [] e = absurd (false≢true e)
+some-in p (y ∷ ys) e = lt-ltb 0 (suc (length ys)) (omega arith)
+
+pub all-some : (b : Body) (ms : List ℕ) → ((m : ℕ) → elem m ms ≡ true → elem (spanLow b m) (pricesOf m (b .rows)) ≡ true) → nonEmpty b ms ≡ true
 unfolding nonEmpty
 all-some b [] h = refl
-all-some b (m ∷ ms) h = and-i (h m (elem-here m ms)) (all-some b ms (λ n e. h n (elem-there n m ms e)))
+all-some b (m ∷ ms) h = and-i (some-in (spanLow b m) (pricesOf m (b .rows)) (h m (elem-here m ms))) (all-some b ms (λ n e. h n (elem-there n m ms e)))
 
 -- ---- and where a scan finds six spans, the first of which has a price
 pub record Scanned (cal bs : List ℕ) (spans : List (List ℕ)) : Type 0 where

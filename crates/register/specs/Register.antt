@@ -46,7 +46,7 @@ sameKeys (r ∷ rs) (s ∷ ss) = eqb (r .month) (s .month) && (eqb (r .price) (s
 -- each of some months has a row
 unfoldable pub nonEmpty : Body → List ℕ → Bool
 nonEmpty b [] = true
-nonEmpty b (m ∷ ms) = elem (spanLow b m) (pricesOf m (b .rows)) && nonEmpty b ms
+nonEmpty b (m ∷ ms) = ltb 0 (length (pricesOf m (b .rows))) && nonEmpty b ms
 
 unfoldable pub entriesOk : ℕ → List Row → Bool
 entriesOk day [] = true
