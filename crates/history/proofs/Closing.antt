@@ -204,6 +204,7 @@ module _ (R : Rules) (L : Laws R) where
       record {
         day = ap (λ (x : Body). x .at .day) body;
         rows = ap (λ (x : Body). map rowTold (x .rows)) body ∙ told-rows;
+        dated = λ m p l e. (s .entry m p .first, s .first-is m p ∙ rw (and-i l e));
         ascend = rw (ap (λ (x : Body). map rowTold (x .rows)) body ∙ told-rows) (rows-ascend R L h (b .at));
         count = count-back b f ∙ sym (length-map (b .rows) rowTold) ∙ ap length told-rows;
         most = rw (count-back b f) (f .rows-fit);

@@ -7,12 +7,13 @@ use mathlib.Core.Option.{Option, none, some}
 use Prim.Native.Nat.{ℕ, _≤_}
 use lib.Dec.{eqb, ltb}
 use lib.ListN.{length, drop, replicate}
+use Rattle.base.specs.Lists.{elem}
 use Rattle.rules.specs.Rules.{Moment, Rules}
 use Rattle.rules.specs.Calls.{Call}
 use Rattle.register.specs.Rows.{Row}
 use Rattle.register.specs.Bytes.{registerLength, mostRows, rowsFrom, at16, readRows}
 use Rattle.listing.specs.Calls.{numberAt, afterAt}
-use Rattle.history.specs.History.{History, rowsTold}
+use Rattle.history.specs.History.{History, between, rowsTold}
 
 -- the empty register, from which every list of calls begins
 abbrev pub emptyRegister : List ℕ
@@ -50,11 +51,12 @@ unfoldable pub ascending : List (ℕ × ℕ × ℕ) → Bool
 ascending [] = true
 ascending (e ∷ es) = ascendFrom (e .0) (e .1) es
 
--- bytes 2–3 hold the day; the rows are exactly those that the history tells, ascending by month, then price; bytes 4–5 hold
--- their number, at most 1,391
+-- bytes 2–3 hold the day; the rows are exactly those that the history tells, each of which has a first day, ascending by month,
+-- then price; bytes 4–5 hold their number, at most 1,391
 pub record HoldsDay (R : Rules) (h : History) (x : Moment) (bs : List ℕ) : Type 0 where
   pub day : at16 bs 2 ≡ x .day
   pub rows : rowsIn bs ≡ rowsTold R h x
+  pub dated : (m p : ℕ) → elem m (R .live x) ≡ true → elem p (between R x (h .low) (h .high) m) ≡ true → (d : ℕ) × (h .first m p ≡ some d)
   pub ascend : ascending (rowsIn bs) ≡ true
   pub count : at16 bs 4 ≡ length (rowsTold R h x)
   pub most : at16 bs 4 ≤ mostRows
