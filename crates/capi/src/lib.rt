@@ -9,7 +9,7 @@ ghost use Rattle.calendar.specs.Calendar.{checkOf};
 ghost use Rattle.names.specs.Names.{writeCause, written, readOf};
 ghost use Rattle.rules.specs.Rulebook.{rules};
 ghost use Rattle.rules.specs.Calls as Call;
-ghost use Rattle.register.specs.Scan.{RowsPlace};
+ghost use Rattle.register.specs.Opening.{rowsPlace};
 ghost use Rattle.listing.specs.Calls.{afterAt, listedAt, announcedAt};
 
 #[no_mangle]
@@ -60,7 +60,7 @@ pub extern "C" fn sindhopul_announce(
 
 #[no_mangle]
 pub extern "C" fn sindhopul_rows(calendar: &[u8], register: &[u8], month: u32) -> Place
-    ensures { λ r. ⌜ RowsPlace (rules (now (calendar .entry))) (now (register .entry)) month r ⌝ }
+    ensures { λ r. ⌜ r ≡ rowsPlace (rules (now (calendar .entry))) (now (register .entry)) month ⌝ }
 {
     register::rows_place(calendar, register, month)
 }

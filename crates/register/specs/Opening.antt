@@ -2,20 +2,27 @@
 -- Assumes nothing.
 use mathlib.Core.Bool.{Bool, true, cond, not, _&&_}
 use mathlib.Core.List.{List, [], _∷_}
-use Prim.Native.Nat.{ℕ}
-use lib.Dec.{eqb}
+use Prim.Native.Nat.{ℕ, _+_, _*_}
+use lib.Dec.{eqb, ltb}
 use lib.ListN.{length}
+use denote.Ref.{RefT}
 use Rattle.base.specs.Lists.{elem}
 use Rattle.base.specs.Causes.{cause, firstOf}
 use Rattle.rules.specs.Rules.{Rules}
 use Rattle.register.specs.Rows.{Row}
 use Rattle.register.specs.Register.{Reg, empty, running, wellFormed}
-use Rattle.register.specs.Bytes.{registerLength, rowsBytes, bodyOf, regOf, inLayout}
+use Rattle.register.specs.Bytes.{registerLength, rowsFrom, rowsBytes, bodyOf, regOf, inLayout}
+use Rattle.register.specs.declared.Place.{Place}
 
 -- the rows of a month
 unfoldable pub monthRows : ℕ → List Row → List Row
 monthRows m [] = []
 monthRows m (r ∷ rs) = cond (eqb (r .month) m) (r ∷ monthRows m rs) (monthRows m rs)
+
+-- the rows of the months before a month
+unfoldable pub earlierRows : ℕ → List Row → List Row
+earlierRows m [] = []
+earlierRows m (r ∷ rs) = cond (ltb (r .month) m) (r ∷ earlierRows m rs) (earlierRows m rs)
 
 module _ (R : Rules) where
   -- a register that is empty or well formed
@@ -49,3 +56,19 @@ module _ (R : Rules) where
   -- the part: the bytes of the month's rows; for every refusal none
   unfoldable pub rowsPart : List ℕ → ℕ → List ℕ
   rowsPart bs m = cond (eqb (rowsNumber bs m) 0) (rowsBytes (monthRows m (bodyOf bs .rows))) []
+
+  -- the call in one: the number, and where the part lies. Rows ascend by month, so the month's rows stand
+  -- behind those of the months before it; for every refusal the part is the empty one at byte 0
+  unfoldable pub rowsPlace : List ℕ → ℕ → Place
+  rowsPlace bs m =
+      let n : ℕ = rowsNumber bs m in
+      let rows : List Row = bodyOf bs .rows in
+      record {
+        number = n;
+        at = cond (eqb n 0) (rowsFrom + 8 * length (earlierRows m rows)) 0;
+        size = cond (eqb n 0) (8 * length (monthRows m rows)) 0;
+      }
+
+-- the pointer to the byte of a slice at a place: the slice's block, and so many bytes behind its start
+abbrev pub pointerTo : RefT (List ℕ) → ℕ → ℕ × ℕ
+pointerTo bytes at = (bytes .ptr .0, bytes .ptr .1 + at)

@@ -14,12 +14,11 @@ use Rattle.calendar.specs.Live.{liveMonths, tierOf}
 use Rattle.calendar.specs.declared.Checked.{Checked}
 use Rattle.grid.specs.Grid.{gridOf}
 use Rattle.grid.specs.Numbers.{numberOf, stride}
-use Rattle.rules.specs.Rules.{Rules, lastFirstMonth}
+use Rattle.rules.specs.Rules.{lastFirstMonth}
 use Rattle.register.specs.Rows.{Row, row, entryOk}
 use Rattle.register.specs.Register.{mostWaiting}
 use Rattle.register.specs.Bytes.{registerLength, placesFrom, rowsFrom, mostRows, at16, allZero, readPlaces}
 use Rattle.register.specs.Spans.{noSpans}
-use Rattle.register.specs.Opening.{rowsNumber, rowsPart}
 use Rattle.register.specs.declared.Place.{Place}
 
 -- a test that tells whether something holds
@@ -143,10 +142,3 @@ monthPlace f m at (n ∷ ns) spans =
     let span : List ℕ = getD spans 0 [] in
     let size : ℕ = 8 * ladderSize (tierOf f n) (getD span 0 0) (getD span 1 0) in
     cond (eqb m n) (record { number = 0; at = at; size = size }) (monthPlace f m (at + size) ns (drop 1 spans))
-
--- the rows call in one: its number and the place of its part, zeros beside a refusal
-pub record RowsPlace (R : Rules) (bs : List ℕ) (m : ℕ) (place : Place) : Type 0 where
-  pub number-is : place .number ≡ rowsNumber R bs m
-  pub part-is : take (place .size) (drop (place .at) bs) ≡ rowsPart R bs m
-  pub inside : place .at + place .size ≤ length bs
-  pub refused : (place .number ≡ 0 → ⊥) → (place .at ≡ 0) × (place .size ≡ 0)

@@ -16,9 +16,9 @@ ghost use Rattle.rules.specs.Rules.{lastFirstMonth};
 ghost use Rattle.rules.specs.Rulebook.{rules};
 ghost use Rattle.register.specs.Register.{mostWaiting, waitingOf, waitingOk};
 ghost use Rattle.register.specs.Bytes.{registerLength, rowsFrom, at16, allZero, bodyOf};
-ghost use Rattle.register.specs.Opening.{rowsNumber, rowsPart};
+ghost use Rattle.register.specs.Opening.{rowsNumber, rowsPart, rowsPlace, pointerTo};
 ghost use Rattle.register.specs.Spans.{spansOf, standingSpans};
-ghost use Rattle.register.specs.Scan.{Tells, Keeps, rowAt, rowsAt, bandStep, bandEnd, fitting, climbed, ladderRows, ladderSpans, placesAt, placeOf, spanIn, causesAt, openingOf, ladderSize, noRows, monthPlace, RowsPlace};
+ghost use Rattle.register.specs.Scan.{Tells, Keeps, rowAt, rowsAt, bandStep, bandEnd, fitting, climbed, ladderRows, ladderSpans, placesAt, placeOf, spanIn, causesAt, openingOf, ladderSize, noRows, monthPlace};
 
 // The register's length in bytes, and where its announcements and its rows begin.
 pub const REGISTER_LENGTH: usize = 11264;
@@ -471,7 +471,7 @@ fn month_place(first: u16, spans: [[u16; 2]; 6], month: u32) -> Place
 
 // The rows call in one. An entry point: it takes any bytes.
 pub fn rows_place(calendar: &[u8], register: &[u8], month: u32) -> Place
-    ensures { λ r. ⌜ RowsPlace (rules (now (calendar .entry))) (now (register .entry)) month r ⌝ }
+    ensures { λ r. ⌜ r ≡ rowsPlace (rules (now (calendar .entry))) (now (register .entry)) month ⌝ }
 {
     let opens = opening(calendar, register);
     if opens.number != 0 {
@@ -497,6 +497,7 @@ pub fn rows_number(calendar: &[u8], register: &[u8], month: u32) -> u16
 // The part of the caller's register that holds a month's rows; for every refusal the empty part at byte 0. An entry point: it takes any bytes.
 pub fn rows<'a>(calendar: &[u8], register: &'a [u8], month: u32) -> &'a [u8]
     ensures { λ r. ⌜ now r ≡ rowsPart (rules (now (calendar .entry))) (now (register .entry)) month ⌝ }
+    ensures { λ r. ⌜ r .ptr ≡ pointerTo (register .entry) (rowsPlace (rules (now (calendar .entry))) (now (register .entry)) month .at) ⌝ }
 {
     let place = rows_place(calendar, register, month);
     let at = place.at as usize;
