@@ -2,53 +2,46 @@
 -- Assumes nothing.
 use mathlib.Core.Path.{_≡_}
 use mathlib.Core.Bool.{true, false, cond}
-use mathlib.Core.List.{List, [], _∷_}
+use mathlib.Core.List.{List, [], _∷_, map}
 use Prim.Native.Nat.{ℕ, _+_, _*_}
 use lib.Dec.{eqb}
 use lib.ListN.{length}
-use Rattle.base.specs.Lists.{least, greatest}
+use Rattle.base.specs.Lists.{elem, least, greatest}
 use Rattle.base.specs.declared.Tier.{Tier}
 use Rattle.base.specs.declared.Tier.the-variants.{N, M, F}
 use Rattle.dates.specs.Months.{thirdFriday}
-use Rattle.calendar.specs.Calendar.{session, expiryOf}
-use Rattle.grid.specs.Grid.{gridOf, nearest, required, requiredLow, requiredHigh, closeTaken}
+use Rattle.calendar.specs.Calendar.{session as hasSession, expiryOf}
+use Rattle.calendar.specs.Live.{firstLive, liveMonths, tierOf}
+use Rattle.grid.specs.Grid.{gridOf, nearest, requiredLow, requiredHigh}
 use Rattle.names.specs.Names.{nameOf}
 use Rattle.rules.specs.Rules.{Rules}
-use Rattle.register.specs.Rows.{Row}
-use Rattle.register.specs.Register.{Body}
-use Rattle.listing.specs.Listing.{startBody, sessionBody, announceBody}
+use Rattle.rules.specs.Rulebook.{rules}
+use Rattle.rules.specs.Calls.{Call, start, session, announce}
+use Rattle.register.specs.Rows.{Row, pricesOf}
+use Rattle.register.specs.Register.{Reg, empty}
+use Rattle.listing.specs.Listing.{accepted}
+use Rattle.listing.specs.Calls.{rowsHeld, numberAt, listedAt}
 
--- one month, of one tier on day 0 and of another from day 1 on
-unfoldable pub oneMonth : Tier → Tier → Rules
-oneMonth t u = record {
-  calendarCause = 0;
-  isSession = λ d. true;
-  nextDay = λ x. x .day + 1;
-  begin = λ d. record { day = d };
-  move = λ x d. record { day = d };
-  good = λ x. true;
-  expiry = λ x m. 99;
-  firstLive = λ x. 300;
-  live = λ x. 300 ∷ [];
-  grid = λ x m. gridOf (cond (eqb (x .day) 0) t u);
-  needLow = λ x new m c. requiredLow (cond (eqb (x .day) 0) t u) c;
-  needHigh = λ x new m c. requiredHigh (cond (eqb (x .day) 0) t u) c;
-}
+-- the register after some accepted calls
+unfoldable pub after : Rules → List Call → Reg → Reg
+after R [] r = r
+after R (k ∷ ks) r = after R ks (accepted R k r)
 
--- its rows after a start at a close, some announcements, and a session at another close
-unfoldable pub announced : Rules → Body → List ℕ → Body
-announced R b [] = b
-announced R b (p ∷ ps) = announced R (announceBody b 300 p) ps
-
-unfoldable pub rowsAfter : Tier → Tier → ℕ → List ℕ → ℕ → List Row
-rowsAfter t u c ps d =
-    let R : Rules = oneMonth t u in
-    sessionBody R (announced R (startBody R (record { day = 0 }) c) ps) (record { day = 1 }) d .rows
-
--- the prices of the rows of an origin
-unfoldable pub ofOrigin : ℕ → List Row → List ℕ
+-- the rows of an origin
+unfoldable pub ofOrigin : ℕ → List Row → List Row
 ofOrigin o [] = []
-ofOrigin o (r ∷ rs) = cond (eqb (r .entry .origin) o) (r .price ∷ ofOrigin o rs) (ofOrigin o rs)
+ofOrigin o (r ∷ rs) = cond (eqb (r .entry .origin) o) (r ∷ ofOrigin o rs) (ofOrigin o rs)
+
+-- how many prices, from which to which
+abbrev pub Reach : Type 0
+Reach = ℕ × ℕ × ℕ
+
+unfoldable pub Reaches : List ℕ → Reach → Type 0
+Reaches ps s = (length ps ≡ s .0) × (least ps ≡ s .1) × (greatest ps ≡ s .2)
+
+-- under a calendar a month is live on a day, of a tier
+unfoldable pub LiveAs : List ℕ → ℕ → ℕ → Tier → Type 0
+LiveAs cal day m t = (elem m (liveMonths (firstLive cal day)) ≡ true) × (tierOf (firstLive cal day) m ≡ t)
 
 -- what a line of the table states
 pub data Line : Type 0 where
@@ -60,26 +53,39 @@ pub data Line : Type 0 where
   near : Tier → ℕ → ℕ → Line
   -- a tier, a close, and the lowest and the highest price that it requires
   span : Tier → ℕ → ℕ → ℕ → Line
-  -- a close, and how many prices it requires of one month of tier N, two of tier M and three of tier F
-  rows : ℕ → ℕ → ℕ → ℕ → Line
-  -- a close that is refused
-  refused : ℕ → Line
-  -- a month's tiers before and after, its first close, the prices announced, the next close; its rows after it; an origin, and
-  -- how many of them have it, from which price to which
-  relists : Tier → Tier → ℕ → List ℕ → ℕ → ℕ → ℕ → ℕ → ℕ → ℕ → Line
+  -- the close of a start; the rows of the one month of tier N, of the two of tier M, of the three of tier F; what it tells as added
+  starts : ℕ → ℕ → ℕ → ℕ → ℕ → Line
+  -- a close, and the number with which it is refused
+  refused : ℕ → ℕ → Line
+  -- a month's tiers on two days, the close of a start on the one, the prices announced, the close of a session on the other; the
+  -- month's ladder before and after the session; an origin, and the month's rows that have it
+  relists : Tier → Tier → ℕ → List ℕ → ℕ → Reach → Reach → ℕ → Reach → Line
   -- month, type, price, and the name's bytes
   name : ℕ → ℕ → ℕ → List ℕ → Line
 
 unfoldable pub Holds : Line → Type 0
 Holds (friday m d) = thirdFriday m ≡ d
-Holds (expires m f d) = (cal : List ℕ) → session cal f ≡ false → session cal d ≡ true → expiryOf cal m ≡ d
+Holds (expires m f d) = (cal : List ℕ) → hasSession cal f ≡ false → hasSession cal d ≡ true → expiryOf cal m ≡ d
 Holds (near t c p) = nearest c (gridOf t) ≡ p
 Holds (span t c lo hi) = (requiredLow t c ≡ lo) × (requiredHigh t c ≡ hi)
-Holds (rows c n m f) = (length (required N c) ≡ n) × (2 * length (required M c) ≡ m) × (3 * length (required F c) ≡ f)
-Holds (refused c) = closeTaken c ≡ false
-Holds (relists t u c ps d n o k lo hi) =
-    let rs : List Row = rowsAfter t u c ps d in
-    (length rs ≡ n) × (length (ofOrigin o rs) ≡ k) × (least (ofOrigin o rs) ≡ lo) × (greatest (ofOrigin o rs) ≡ hi)
+-- under every calendar and on every day
+Holds (starts c n m f a) = (cal : List ℕ) (day : ℕ) →
+    let rows : ℕ → ℕ = λ k. length (pricesOf k (rowsHeld (accepted (rules cal) (start day c) empty))) in
+    ((k : ℕ) → LiveAs cal day k N → rows k ≡ n)
+    × ((k : ℕ) → LiveAs cal day k M → 2 * rows k ≡ m)
+    × ((k : ℕ) → LiveAs cal day k F → 3 * rows k ≡ f)
+    × (n + m + f ≡ a)
+    × ((bs : List ℕ) → numberAt (rules cal) (start day c) bs ≡ 0 → (listedAt cal (start day c) bs .added ≡ a) × (listedAt cal (start day c) bs .rows ≡ a))
+-- wherever a start or a session at some close is accepted, so that no cause but the close is left, one at this close is refused
+Holds (refused c n) = (cal bs : List ℕ) (day some : ℕ)
+    → (numberAt (rules cal) (start day some) bs ≡ 0 → numberAt (rules cal) (start day c) bs ≡ n)
+    × (numberAt (rules cal) (session day some) bs ≡ 0 → numberAt (rules cal) (session day c) bs ≡ n)
+-- under every calendar, for every two days and every month live on both
+Holds (relists t u c ps d old new o some) = (cal : List ℕ) (day later m : ℕ) → LiveAs cal day m t → LiveAs cal later m u →
+    let R : Rules = rules cal in
+    let before : Reg = after R (start day c ∷ map (announce m) ps) empty in
+    let rows : List Row = rowsHeld (accepted R (session later d) before) in
+    Reaches (pricesOf m (rowsHeld before)) old × Reaches (pricesOf m rows) new × Reaches (pricesOf m (ofOrigin o rows)) some
 Holds (name m k p bytes) = nameOf m k p ≡ bytes
 
 -- each line of a list holds
@@ -102,7 +108,7 @@ table =
     ∷ near N 241337 2425 ∷ span N 241337 2025 2825
     ∷ near M 241337 2400 ∷ span M 241337 2000 2800
     ∷ near F 241337 2400 ∷ span F 241337 2000 2800
-    ∷ rows 241337 33 34 27
+    ∷ starts 241337 33 34 27 94
     -- 4.
     ∷ span N 101000 840 1400 ∷ span M 101000 840 1400 ∷ span F 101000 840 1400
     -- 5.
@@ -110,15 +116,15 @@ table =
     -- 6.
     ∷ near F 97999 960 ∷ near F 98000 1000
     -- 7.
-    ∷ span F 9000 20 180 ∷ refused 8999
+    ∷ span F 9000 20 180 ∷ refused 8999 21
     -- 8.
-    ∷ span F 954999 9100 9900 ∷ refused 955000
-    -- 9. 2000 to 2800 moves from tier F to tier M
-    ∷ relists F M 241337 [] 241337 17 2 8 2050 2750
-    -- 10. 2000 to 3800
-    ∷ relists M M 241337 [] 341337 37 3 20 2850 3800
-    -- 11. 3100 announced
-    ∷ relists M M 241337 (3100 ∷ []) 241337 23 4 6 2850 3100
+    ∷ span F 954999 9100 9900 ∷ refused 955000 21
+    -- 9. moves from tier F to tier M with no wider close
+    ∷ relists F M 241337 [] 241337 (9, 2000, 2800) (17, 2000, 2800) 2 (8, 2050, 2750)
+    -- 10. a wider close
+    ∷ relists M M 241337 [] 341337 (17, 2000, 2800) (37, 2000, 3800) 3 (20, 2850, 3800)
+    -- 11. the same ladder, 3100 announced
+    ∷ relists M M 241337 (3100 ∷ []) 241337 (17, 2000, 2800) (23, 2000, 3100) 4 (6, 2850, 3100)
     -- 12. L and X
     ∷ name 323 0 2400 (series 76 2 6 2 4 0 0)
     ∷ name 323 1 2400 (series 88 2 6 2 4 0 0)
