@@ -1,13 +1,13 @@
 // start, session, announce and preview: the register's calls over files.
 mod entries;
 
+use announcing::Answer;
 use entries::record;
 use files::Loaded;
-use journal::ANNOUNCE;
-use journal::SESSION;
-use journal::START;
 use libc::STDOUT_FILENO;
-use listing::Listed;
+use rules::ANNOUNCE;
+use rules::SESSION;
+use rules::START;
 use terminal::DONE;
 use terminal::TROUBLE;
 use terminal::refuse;
@@ -19,40 +19,6 @@ pub struct Call {
     pub kind: u8,
     pub x: u32,
     pub y: u32,
-}
-
-// What a call returned: the number and the values beside it.
-pub struct Answer {
-    pub number: u16,
-    pub first: u16,
-    pub second: u16,
-    pub third: u16,
-}
-
-fn list(call: Call, calendar: &[u8], register: &mut [u8]) -> Listed {
-    if call.kind == START {
-        return listing::start(calendar, register, call.x, call.y);
-    }
-    listing::session(calendar, register, call.x, call.y)
-}
-
-fn apply(call: Call, calendar: &[u8], register: &mut [u8]) -> Answer {
-    if call.kind == ANNOUNCE {
-        let announced = announcing::announce(calendar, register, call.x, call.y);
-        return Answer {
-            number: announced.number,
-            first: announced.waiting,
-            second: 0,
-            third: 0,
-        };
-    }
-    let listed = list(call, calendar, register);
-    Answer {
-        number: listed.number,
-        first: listed.added,
-        second: listed.removed,
-        third: listed.rows,
-    }
 }
 
 // What an accepted call did.
@@ -130,7 +96,7 @@ fn call_locked(fd: i32, call: Call, calendar: &[u8], path: &[u8], beside: &[u8])
         return TROUBLE;
     }
     let before = register;
-    let answer = apply(call, calendar, &mut register);
+    let answer = announcing::call_by_kind(calendar, &mut register, call.kind, call.x, call.y);
     if answer.number != 0 {
         return turn_down(fd, call, answer, beside, calendar, &before);
     }
@@ -186,7 +152,7 @@ pub fn make(kind: u8, calendar: &[u8]) -> i32 {
 
 // What the session would answer, and each row that it would add.
 fn foresee(call: Call, calendar: &[u8], before: &[u8], after: &mut [u8]) -> i32 {
-    let answer = apply(call, calendar, after);
+    let answer = announcing::call_by_kind(calendar, after, call.kind, call.x, call.y);
     if answer.number != 0 {
         return refuse(
             calendar,

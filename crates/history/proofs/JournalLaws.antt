@@ -11,12 +11,10 @@ use lib.Seq.{take-all, take-suc-set, drop-cons}
 use borrow.Author.Tests.{eq-eqb, ne-eqb, le-leb, lt-leb}
 use Rattle.rules.specs.Rules.{Rules}
 use Rattle.rules.specs.Rulebook.{rules}
-use Rattle.rules.specs.Calls.{Call, start, session, announce}
-use Rattle.listing.specs.Calls.{numberAt, afterAt, listedAt, announcedAt}
-use Rattle.listing.specs.declared.Listed.{Listed}
-use Rattle.listing.specs.declared.Announced.{Announced}
+use Rattle.rules.specs.Calls.{Call, callOf}
+use Rattle.listing.specs.Calls.{numberAt, afterAt}
 use Rattle.history.specs.Claim.{finalAt, numbersAt}
-use Rattle.history.specs.Journal.{callOf, journal, kindsOk}
+use Rattle.history.specs.Journal.{journal, kindsOk}
 
 module _ (R : Rules) where
   final-more : (ks : List Call) (k : Call) (bs : List ℕ) → finalAt R (ks ++ (k ∷ [])) bs ≡ afterAt R k (finalAt R ks bs)
@@ -96,28 +94,3 @@ module _ (kinds : List ℕ) (i : ℕ) where
   pub kinds-end : length kinds ≤ i → kindsOk (drop i kinds) ≡ true
   unfolding kindsOk
   kinds-end h = rw (drop-of-length-le kinds h)
-
--- ---- a call by its kind
-module _ (kind x y : ℕ) where
-  pub is-start : kind ≡ 0 → callOf kind x y ≡ start x y
-  unfolding callOf
-  is-start e = rw (eq-eqb kind 0 e)
-
-  module _ (n : kind ≡ 0 → ⊥) where
-    pub is-session : kind ≡ 1 → callOf kind x y ≡ session x y
-    unfolding callOf
-    is-session e = rw (ne-eqb kind 0 n, eq-eqb kind 1 e)
-
-    pub is-announce : (kind ≡ 1 → ⊥) → callOf kind x y ≡ announce x y
-    unfolding callOf
-    is-announce m = rw (ne-eqb kind 0 n, ne-eqb kind 1 m)
-
--- a call's answer has its number, and the bytes behind it are those of the call
-module _ (calendar bs after : List ℕ) (j k : Call) (same : j ≡ k) (left : after ≡ afterAt (rules calendar) k bs) where
-  pub as-listed : (l : Listed) → l ≡ listedAt calendar k bs → (l .number ≡ numberAt (rules calendar) j bs) × (after ≡ afterAt (rules calendar) j bs)
-  unfolding listedAt
-  as-listed l e = (ap (λ (a : Listed). a .number) e ∙ ap (λ (c : Call). numberAt (rules calendar) c bs) (sym same), rw same left)
-
-  pub as-announced : (l : Announced) → l ≡ announcedAt calendar k bs → (l .number ≡ numberAt (rules calendar) j bs) × (after ≡ afterAt (rules calendar) j bs)
-  unfolding announcedAt
-  as-announced l e = (ap (λ (a : Announced). a .number) e ∙ ap (λ (c : Call). numberAt (rules calendar) c bs) (sym same), rw same left)

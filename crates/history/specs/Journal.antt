@@ -7,16 +7,12 @@ use Prim.Native.Nat.{ℕ}
 use lib.Dec.{eqb, leb}
 use lib.ListN.{length}
 use Rattle.rules.specs.Rulebook.{rules}
-use Rattle.rules.specs.Calls.{Call, start, session, announce}
+use Rattle.rules.specs.Calls.{Call, callOf}
 use Rattle.register.specs.Bytes.{registerLength, allZero}
 use Rattle.history.specs.History.{blank, told}
 use Rattle.history.specs.Claim.{finalAt, numbersAt, Claim}
 use Rattle.history.specs.declared.Outcome.{Outcome}
 use Rattle.history.specs.declared.Outcome.the-variants.{Done, NotEmpty, Malformed}
-
--- a call by its kind: 0 start, 1 session, 2 announce
-unfoldable pub callOf : ℕ → ℕ → ℕ → Call
-callOf kind x y = cond (eqb kind 0) (start x y) (cond (eqb kind 1) (session x y) (announce x y))
 
 -- the calls of a journal: their kinds, and the two arguments of each
 unfoldable pub journal : List ℕ → List ℕ → List ℕ → List Call

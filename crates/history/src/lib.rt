@@ -2,9 +2,8 @@
 ghost use mathlib.Core.Path.{_≡_};
 ghost use lib.ListN.{length};
 ghost use Rattle.rules.specs.Rulebook.{rules};
-ghost use Rattle.listing.specs.Calls.{numberAt, afterAt};
 ghost use Rattle.history.specs.Claim.{finalAt, numbersAt};
-ghost use Rattle.history.specs.Journal.{callOf, journal, kindsOk, wellKept, isEmpty, Left};
+ghost use Rattle.history.specs.Journal.{journal, kindsOk, wellKept, isEmpty, Left};
 
 // How a journal was run.
 pub enum Outcome {
@@ -15,30 +14,13 @@ pub enum Outcome {
     Malformed,
 }
 
-// One call of a journal: kind 0 is a start, 1 a session, any other an announcement.
-fn apply(calendar: &[u8], register: &mut [u8], kind: u8, x: u32, y: u32) -> u16
-    ensures { λ r. ⌜ r ≡ numberAt (rules (now (calendar .entry))) (callOf kind x y) (now (register .entry)) ⌝ }
-    ensures { λ _. ⌜ now (register .exit) ≡ afterAt (rules (now (calendar .entry))) (callOf kind x y) (now (register .entry)) ⌝ }
-{
-    if kind == 0 {
-        let listed = listing::start(calendar, register, x, y);
-        return listed.number;
-    }
-    if kind == 1 {
-        let listed = listing::session(calendar, register, x, y);
-        return listed.number;
-    }
-    let announced = announcing::announce(calendar, register, x, y);
-    announced.number
-}
-
 // Whether each kind is that of a call.
 fn kinds_stand(kinds: &[u8]) -> bool
     ensures { λ r. ⌜ r ≡ kindsOk (now (kinds .entry)) ⌝ }
 {
     let mut i: usize = 0;
     while i < kinds.len() {
-        if 2 < kinds[i] {
+        if rules::ANNOUNCE < kinds[i] {
             return false;
         }
         i += 1;
@@ -86,8 +68,8 @@ fn run(
 {
     let mut i: usize = 0;
     while i < kinds.len() {
-        let number = apply(calendar, register, kinds[i], xs[i], ys[i]);
-        numbers[i] = number;
+        let answer = announcing::call_by_kind(calendar, register, kinds[i], xs[i], ys[i]);
+        numbers[i] = answer.number;
         i += 1;
     }
 }

@@ -5,8 +5,7 @@
 //     announce 2026-12 3100 = 0 waiting 1
 //     session 2026-11-19 2420.10 = 19
 //
-// A call, its two arguments, `=`, the number that it gave, and the values beside it. Calls are of kind 0 start, 1
-// session and 2 announce, as `history::replay` takes them.
+// A call, its two arguments, `=`, the number that it gave, and the values beside it.
 mod input;
 mod output;
 
@@ -18,13 +17,6 @@ pub use input::line_of;
 pub use input::read;
 pub use input::untold;
 pub use output::entry;
-
-// The kinds of calls.
-pub const START: u8 = 0;
-
-pub const SESSION: u8 = 1;
-
-pub const ANNOUNCE: u8 = 2;
 
 // What the journal tells of a call where no number stands behind it.
 pub const UNTOLD: u16 = 65535;

@@ -1,12 +1,14 @@
 -- `history::run` meets its contract: behind each call the register and the numbers are those that the calls so far give.
 -- Assumes nothing.
-use mathlib.Core.Path.{_≡_, refl, _∙_}
+use mathlib.Core.Path.{_≡_, refl, ap, _∙_}
 use mathlib.Core.List.{List}
 use Prim.Native.Nat.{ℕ, _≤_, _-_}
 use native.Mathlib.Omega.{arith}
 use borrow.Author.Needs.{needs}
 use lib.ListN.{length, length-set}
 use Rattle.rules.specs.Rulebook.{rules}
+use Rattle.announcing.specs.declared.Answer.{Answer}
+use Rattle.announcing.proofs.Answers.{answer-number}
 use Rattle.history.proofs.JournalLaws.{Behind, behind-none, behind-more, behind-all}
 use Rattle.history.proofs.run.Statement.{statement}
 use Rattle.history.proofs.run.Tie as tie
@@ -26,23 +28,23 @@ abbrev μ-loop : tie.MeasureT-loop
 loop-holds : tie.Need-loop-holds Inv-loop μ-loop
 loop-holds c = record { in-range = omega arith; register-length = refl; numbers-length = refl; behind = behind-none _ _ _ _ _ _ }
 
-shared-slice-read-apply : tie.Need-shared-slice-read-apply Inv-loop μ-loop
-shared-slice-read-apply c = omega arith
+shared-slice-read-call-by-kind : tie.Need-shared-slice-read-call-by-kind Inv-loop μ-loop
+shared-slice-read-call-by-kind c = omega arith
 
-mul-apply : tie.Need-mul-apply Inv-loop μ-loop
-mul-apply c = search needs
+mul-call-by-kind : tie.Need-mul-call-by-kind Inv-loop μ-loop
+mul-call-by-kind c = search needs
 
-shared-slice-read-apply-2 : tie.Need-shared-slice-read-apply-2 Inv-loop μ-loop
-shared-slice-read-apply-2 c = omega arith
+shared-slice-read-call-by-kind-2 : tie.Need-shared-slice-read-call-by-kind-2 Inv-loop μ-loop
+shared-slice-read-call-by-kind-2 c = omega arith
 
-mul-apply-2 : tie.Need-mul-apply-2 Inv-loop μ-loop
-mul-apply-2 c = search needs
+mul-call-by-kind-2 : tie.Need-mul-call-by-kind-2 Inv-loop μ-loop
+mul-call-by-kind-2 c = search needs
 
-shared-slice-read-apply-3 : tie.Need-shared-slice-read-apply-3 Inv-loop μ-loop
-shared-slice-read-apply-3 c = omega arith
+shared-slice-read-call-by-kind-3 : tie.Need-shared-slice-read-call-by-kind-3 Inv-loop μ-loop
+shared-slice-read-call-by-kind-3 c = omega arith
 
-apply-requires : tie.Need-apply-requires Inv-loop μ-loop
-apply-requires c κs = search needs
+call-by-kind-requires : tie.Need-call-by-kind-requires Inv-loop μ-loop
+call-by-kind-requires c κs = search needs
 
 mul-numbers : tie.Need-mul-numbers Inv-loop μ-loop
 mul-numbers c = search needs
@@ -62,11 +64,11 @@ loop-again c =
     let inv = l .loop .inv in
     record {
       in-range = omega arith;
-      register-length = c .before .before .apply .kept .1 .0 ∙ inv .register-length;
-      numbers-length = length-set (l .loop .numbers) (l .loop .i) (c .before .before .apply .result) ∙ inv .numbers-length;
+      register-length = c .before .before .call-by-kind .kept .1 .0 ∙ inv .register-length;
+      numbers-length = length-set (l .loop .numbers) (l .loop .i) (c .before .before .call-by-kind .result .number) ∙ inv .numbers-length;
       behind =
           behind-more _ _ _ _ _ (l .loop .i) _ _ _ _ (omega arith) (omega arith) (omega arith) (omega arith)
-          (c .before .before .apply .ensures .0) (c .before .before .apply .ensures .1) (inv .behind);
+          (ap (λ (a : Answer). a .number) (c .before .before .call-by-kind .ensures .0) ∙ answer-number _ _ _) (c .before .before .call-by-kind .ensures .1) (inv .behind);
     }
 
 same-length : tie.Need-same-length Inv-loop μ-loop
@@ -87,12 +89,12 @@ run-spec =
     Inv-loop
     μ-loop
     loop-holds
-    shared-slice-read-apply
-    mul-apply
-    shared-slice-read-apply-2
-    mul-apply-2
-    shared-slice-read-apply-3
-    apply-requires
+    shared-slice-read-call-by-kind
+    mul-call-by-kind
+    shared-slice-read-call-by-kind-2
+    mul-call-by-kind-2
+    shared-slice-read-call-by-kind-3
+    call-by-kind-requires
     mul-numbers
     slice-write-numbers
     add-i
