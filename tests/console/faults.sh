@@ -1,7 +1,7 @@
 #!/bin/sh
-# At each system call of a session in turn: kills it before the call and after it, and lets the call fail. Whatever was
-# met, the register is the old one or the new one to the byte and the journal has lost nothing; the same command then
-# completes the work.
+# At each system call of a session in turn: kills it before the call and after it, and lets the call fail; once with a
+# journal of whole lines, once with one whose last line was cut off. Whatever was met, the register is the old one or the
+# new one to the byte and the journal has lost no whole line; the same command then completes the work.
 # usage: tests/console/faults.sh SINDHOPUL
 set -eu
 here=$(cd "$(dirname "$0")" && pwd)
@@ -11,7 +11,7 @@ trap 'rm -r "$work"' EXIT
 "${CC:-cc}" -std=c11 -Wall -Wextra -Werror -pedantic -O2 "$here/fault_at.c" -o "$work/fault_at"
 
 fail() {
-    echo "faults: $fault at call $n: $*" >&2
+    echo "faults: $journal, $fault at call $n: $*" >&2
     ls -l "$work/desk" >&2
     exit 1
 }
@@ -21,20 +21,26 @@ session() {
 }
 
 # A session after an expiry with an announcement waiting: rows leave, rows come, places are cleared.
-fault=none n=0
-mkdir "$work/old" "$work/desk"
-cd "$work/old"
-"$program" calendar "$here/../../calendars/warsaw.txt" calendar >/dev/null
-"$program" start calendar register 2026-11-20 2413.37 --journal journal >/dev/null
-"$program" announce calendar register 2026-12 3925 --journal journal >/dev/null
-cp -R "$work/old" "$work/new"
-cd "$work/new"
-session >/dev/null
-old_size=$(wc -c <"$work/old/journal")
-new_size=$(wc -c <journal)
-if cmp -s register "$work/old/register"; then fail "the session changed no register"; fi
-head -c "$old_size" journal | cmp -s - "$work/old/journal" || fail "the session changed the old journal"
-[ "$(tail -c +$((old_size + 1)) journal | wc -l)" -eq 1 ] || fail "the session added no single line"
+prepare() {
+    fault=none n=0
+    rm -rf "$work/old" "$work/new" "$work/desk"
+    mkdir "$work/old" "$work/desk"
+    cd "$work/old"
+    "$program" calendar "$here/../../calendars/warsaw.txt" calendar >/dev/null
+    "$program" start calendar register 2026-11-20 2413.37 --journal journal >/dev/null
+    "$program" announce calendar register 2026-12 3925 --journal journal >/dev/null
+    cp journal "$work/whole"
+    whole_size=$(wc -c <journal)
+    if [ "$journal" = "cut line" ]; then printf 'session 2026-1' >>journal; fi
+    cp -R "$work/old" "$work/new"
+    cd "$work/new"
+    session >/dev/null 2>&1
+    new_size=$(wc -c <journal)
+    if cmp -s register "$work/old/register"; then fail "the session changed no register"; fi
+    head -c "$whole_size" journal | cmp -s - "$work/whole" || fail "the session changed the whole lines"
+    [ "$(tail -c +$((whole_size + 1)) journal | wc -l)" -eq 1 ] || fail "the session added no single line"
+    cd "$work/desk"
+}
 
 # Sets the desk, meets the fault there and looks at what it left; answers 1 where the command ended before its n-th call.
 meet() {
@@ -59,10 +65,12 @@ meet() {
     else
         fail "the register is neither the old one nor the new one"
     fi
-    size=$(wc -c <journal)
-    [ "$size" -ge "$old_size" ] || fail "the journal has lost something"
-    head -c "$size" "$work/new/journal" | cmp -s - journal || fail "the journal has more than the one line"
-    if [ "$size" -gt "$old_size" ] && [ "$size" -lt "$new_size" ]; then torn=$((torn + 1)); fi
+    if ! cmp -s journal "$work/old/journal"; then
+        size=$(wc -c <journal)
+        [ "$size" -ge "$whole_size" ] || fail "the journal has lost something"
+        head -c "$size" "$work/new/journal" | cmp -s - journal || fail "the journal has more than the one line"
+        if [ "$size" -gt "$whole_size" ] && [ "$size" -lt "$new_size" ]; then torn=$((torn + 1)); fi
+    fi
 
     status=0
     session >/dev/null 2>"$work/message" || status=$?
@@ -75,7 +83,7 @@ meet() {
     fi
     case $status in
     0) cp journal "$work/kept" ;;
-    # Where the killed run had done the work the call is refused, and the journal tells that too.
+    # Where the run with the fault had done the work the call is refused, and the journal tells that too.
     1)
         tail -n 1 journal | grep -q ' = 19$' || fail "the same command was refused and the journal has no word of it"
         head -n -1 journal >"$work/kept"
@@ -87,14 +95,16 @@ meet() {
     [ "$(echo *)" = "calendar journal register" ] || fail "other files are left"
 }
 
-cd "$work/desk"
-for fault in before after fail; do
-    n=1 old=0 new=0 locks=0 torn=0
-    while meet; do n=$((n + 1)); done
-    # The run that met no fault is the whole command: past its last call nothing is untried.
-    cmp -s register "$work/new/register" || fail "the whole run left another register"
-    cmp -s journal "$work/new/journal" || fail "the whole run left another journal"
-    [ "$old" -gt 0 ] || fail "the old register was never left"
-    [ "$new" -gt 0 ] || fail "the new register was never left"
-    echo "faults, $fault: $((n - 1)) calls, $old left the old register, $new the new one; $locks left a lock, $torn part of a line"
+for journal in "whole lines" "cut line"; do
+    prepare
+    for fault in before after fail; do
+        n=1 old=0 new=0 locks=0 torn=0
+        while meet; do n=$((n + 1)); done
+        # The run that met no fault is the whole command: past its last call nothing is untried.
+        cmp -s register "$work/new/register" || fail "the whole run left another register"
+        cmp -s journal "$work/new/journal" || fail "the whole run left another journal"
+        [ "$old" -gt 0 ] || fail "the old register was never left"
+        [ "$new" -gt 0 ] || fail "the new register was never left"
+        echo "faults, $journal, $fault: $((n - 1)) calls, $old left the old register, $new the new one; $locks left a lock, $torn part of a line"
+    done
 done

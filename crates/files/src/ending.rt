@@ -58,18 +58,25 @@ pub fn read_tail(fd: i32, path: &[u8], buffer: &mut [u8]) -> Tail {
 
 // Ends the journal so many bytes behind a place.
 pub fn cut(fd: i32, path: &[u8], from: i64, bytes: usize) -> bool {
-    libc::lseek(fd, from, libc::SEEK_SET);
-    let at = libc::lseek(fd, (bytes % 65536) as i64, libc::SEEK_CUR);
-    if libc::ftruncate(fd, at) == 0 {
-        return true;
+    if libc::lseek(fd, from, libc::SEEK_SET) != from {
+        os::fail(path);
+        return false;
     }
-    os::fail(path);
-    false
+    let at = libc::lseek(fd, (bytes % 65536) as i64, libc::SEEK_CUR);
+    if libc::ftruncate(fd, at) != 0 {
+        os::fail(path);
+        return false;
+    }
+    true
 }
 
 // Puts a line behind all that the journal has and brings it to the disk.
 pub fn append(fd: i32, path: &[u8], line: &[u8]) -> bool {
     let at = libc::lseek(fd, 0, libc::SEEK_END);
+    if at < 0 {
+        os::fail(path);
+        return false;
+    }
     if !io::write_all(fd, line) {
         os::fail(path);
         // a part of a line is worse than none
