@@ -7,12 +7,12 @@ use native.Mathlib.Omega.{arith}
 use lib.ListN.{length, getD, take, drop, set, replicate, length-append}
 use lib.Seq.{take-at, drop-at}
 use borrow.Rule.Slice.PartMut.{putMid}
-use Rattle.register.specs.Register.{Body, running}
-use Rattle.register.specs.Bytes.{two, placesBytes, rowsBytes, padded, bodyBytes, bodyOf, bytesOf}
-use Rattle.register.proofs.ByteLaws.{places-length}
-use Rattle.register.proofs.Kept.{places-count}
-use Rattle.ladders.proofs.Parts.{whole-part, put-rest}
-use Rattle.listing.specs.Listing.{announceBody}
+use Rattle.layout.specs.Register.{Body, running}
+use Rattle.base.specs.Words.{two}
+use Rattle.layout.specs.Bytes.{placesBytes, rowsBytes, padded, bodyBytes, bodyOf, bytesOf}
+use Rattle.layout.proofs.ByteLaws.{places-length, places-count}
+use Rattle.base.proofs.Parts.{whole-part, put-rest}
+use Rattle.calls.specs.Listing.{announceBody}
 use Rattle.announcing.specs.Placing.{placeBytes, Room}
 
 places-more : (ws : List (ℕ × ℕ)) (m p : ℕ) → placesBytes (ws ++ ((m, p) ∷ [])) ≡ placesBytes ws ++ placeBytes m p

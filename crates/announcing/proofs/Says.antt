@@ -19,20 +19,21 @@ use Rattle.calendar.proofs.LiveLaws.{live-day}
 use Rattle.calendar.specs.declared.Checked.{Checked}
 use Rattle.rules.specs.Rules.{Rules, next, lastFirstMonth}
 use Rattle.rules.specs.Rulebook.{rules}
-use Rattle.rules.specs.Calls.{announce}
+use Rattle.calls.specs.Calls.{announce}
 use Rattle.rules.proofs.RulebookLaws.{laws}
-use Rattle.register.specs.Register.{mostWaiting, Body, running, waitingOf, spanLow, spanHigh, announceCauses}
-use Rattle.register.specs.Bytes.{registerLength, at16, allZero, bodyOf, bytesOf, regOf}
-use Rattle.register.specs.Opening.{stands}
-use Rattle.register.specs.Spans.{runsWell, spansOf}
-use Rattle.register.specs.Scan.{placesAt, spanIn, causesAt, openingCause, openingOf}
-use Rattle.register.proofs.Kept.{places-count}
+use Rattle.layout.specs.Register.{mostWaiting, Body, running, waitingOf, spanLow, spanHigh, announceCauses}
+use Rattle.layout.specs.Bytes.{registerLength, allZero, bodyOf, bytesOf, regOf}
+use Rattle.base.specs.Words.{at16}
+use Rattle.layout.specs.Opening.{stands}
+use Rattle.layout.specs.Spans.{runsWell, spansOf, placesAt, spanIn}
+use Rattle.register.specs.Check.{causesAt, openingCause, openingOf}
+use Rattle.layout.proofs.ByteLaws.{places-count}
 use Rattle.register.proofs.Well.{Running, runs, runs-i, run-keeps, run-first}
 use Rattle.register.proofs.Waiting.{causes-are}
 use Rattle.register.proofs.Opens.{zero-status, says-15, says-own, stands-else, opening-says}
-use Rattle.listing.specs.Listing.{number, accepted, announceBody}
-use Rattle.listing.specs.Calls.{numberAt, afterAt, announcedAt, waitingIn}
-use Rattle.listing.specs.declared.Announced.{Announced}
+use Rattle.calls.specs.Listing.{number, accepted, announceBody}
+use Rattle.calls.specs.Answers.{numberAt, afterAt, announcedAt, waitingIn}
+use Rattle.calls.specs.declared.Announced.{Announced}
 use Rattle.announcing.specs.Placing.{Room}
 
 -- ---- a register that runs: its day lies in the calendar, and its places in their part

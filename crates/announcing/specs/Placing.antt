@@ -4,8 +4,8 @@ use mathlib.Core.Path.{_≡_}
 use mathlib.Core.List.{List, [], _∷_}
 use Prim.Native.Nat.{ℕ, _/_, _%_, _<_}
 use lib.ListN.{length, getD}
-use Rattle.register.specs.Register.{mostWaiting, running}
-use Rattle.register.specs.Bytes.{registerLength, bytesOf, bodyOf}
+use Rattle.layout.specs.Register.{mostWaiting, running}
+use Rattle.layout.specs.Bytes.{registerLength, bytesOf, bodyOf}
 
 -- a place's four bytes
 abbrev pub placeBytes : ℕ → ℕ → List ℕ

@@ -1,10 +1,7 @@
 // Announce on the register's bytes, and each of the three calls by its kind.
-use listing::Announced;
-use listing::Listed;
-use register::MOST_WAITING;
-use register::PLACES;
-use rules::SESSION;
-use rules::START;
+use calls::Announced;
+use layout::MOST_WAITING;
+use layout::PLACES;
 ghost use mathlib.Core.Path.{_≡_};
 ghost use mathlib.Core.Bool.{true};
 ghost use mathlib.Core.List.{_++_};
@@ -13,15 +10,14 @@ ghost use lib.ListN.{length, drop};
 ghost use Rattle.calendar.specs.Calendar.{Passes};
 ghost use Rattle.calendar.specs.Live.{firstLive, liveMonths};
 ghost use Rattle.rules.specs.Rulebook.{rules};
-ghost use Rattle.rules.specs.Calls as Call;
-ghost use Rattle.rules.specs.Calls.{callOf};
-ghost use Rattle.register.specs.Register.{running};
-ghost use Rattle.register.specs.Bytes.{registerLength, at16, bodyOf, bytesOf};
-ghost use Rattle.register.specs.Spans.{runsWell, spansOf};
-ghost use Rattle.listing.specs.Listing.{announceBody, number};
-ghost use Rattle.listing.specs.Calls.{afterAt, announcedAt};
+ghost use Rattle.calls.specs.Calls as Call;
+ghost use Rattle.layout.specs.Register.{running};
+ghost use Rattle.layout.specs.Bytes.{registerLength, bodyOf, bytesOf};
+ghost use Rattle.base.specs.Words.{at16};
+ghost use Rattle.layout.specs.Spans.{runsWell, spansOf};
+ghost use Rattle.calls.specs.Listing.{announceBody, number};
+ghost use Rattle.calls.specs.Answers.{afterAt, announcedAt};
 ghost use Rattle.announcing.specs.Placing.{placeBytes, Room};
-ghost use Rattle.announcing.specs.Answers.{ofListed, answerAt};
 
 // Writes an announcement at the front of a part.
 fn write_place(part: &mut [u8], month: u16, price: u16)
@@ -60,7 +56,7 @@ fn announce_cause(
     requires { ⌜ spans ≡ spansOf (bodyOf (now register)) (liveMonths (firstLive (now calendar) (at16 (now register) 2))) ⌝ }
     ensures { λ r. ⌜ r ≡ number (rules (now (calendar .entry))) (Call.announce month price) (running (bodyOf (now (register .entry)))) ⌝ }
 {
-    let day = register::word(register, 2);
+    let day = base::word(register, 2);
     let first = calendar::first_live(calendar, day);
     let next = register::next_first(calendar, day);
     let places = register[1] as usize;
@@ -98,46 +94,4 @@ pub fn announce(calendar: &[u8], register: &mut [u8], month: u32, price: u32) ->
     }
     let waiting = put_announcement(register, month as u16, price as u16);
     Announced { number: 0, waiting }
-}
-
-// What a call answers: its number, and beside it added, removed and rows of a start or session, or how many announcements wait.
-pub struct Answer {
-    pub number: u16,
-    pub first: u16,
-    pub second: u16,
-    pub third: u16,
-}
-
-fn of_listed(listed: Listed) -> Answer
-    ensures { λ r. ⌜ r ≡ ofListed listed ⌝ }
-{
-    Answer {
-        number: listed.number,
-        first: listed.added,
-        second: listed.removed,
-        third: listed.rows,
-    }
-}
-
-// A call by its kind: a start, a session, and for any other kind an announcement. An entry point: it takes any bytes and any
-// numbers.
-pub fn call_by_kind(calendar: &[u8], register: &mut [u8], kind: u8, x: u32, y: u32) -> Answer
-    ensures { λ r. ⌜ r ≡ answerAt (now (calendar .entry)) (callOf kind x y) (now (register .entry)) ⌝ }
-    ensures { λ _. ⌜ now (register .exit) ≡ afterAt (rules (now (calendar .entry))) (callOf kind x y) (now (register .entry)) ⌝ }
-{
-    if kind == START {
-        let listed = listing::start(calendar, register, x, y);
-        return of_listed(listed);
-    }
-    if kind == SESSION {
-        let listed = listing::session(calendar, register, x, y);
-        return of_listed(listed);
-    }
-    let announced = announce(calendar, register, x, y);
-    Answer {
-        number: announced.number,
-        first: announced.waiting,
-        second: 0,
-        third: 0,
-    }
 }

@@ -102,7 +102,7 @@ fn rows(calendar: &[u8], register: &[u8]) -> i32 {
     let Parsed::Number(month) = terminal::number(4, terminal::MONTH) else {
         return TROUBLE;
     };
-    let number = register::rows_number(calendar, register, month);
+    let number = rows::rows_number(calendar, register, month);
     if number != 0 {
         return refuse(calendar, register, number, 0, month, 0);
     }
@@ -163,7 +163,7 @@ fn show(calendar: &[u8], register: &[u8]) -> i32 {
 // A question about a register; one that cannot be used is refused.
 pub fn ask(command: u32, calendar: &[u8], register: &[u8]) -> i32 {
     let first = reading::first_live(calendar, register);
-    let number = register::rows_number(calendar, register, first);
+    let number = rows::rows_number(calendar, register, first);
     if number != 0 {
         let checked = calendar::check(calendar);
         return refuse(calendar, register, number, checked.month, 0, 0);

@@ -1,7 +1,7 @@
 // Holding a register against what its journal gives.
+use layout::PLACES;
+use layout::ROWS;
 use phrases::fill;
-use register::PLACES;
-use register::ROWS;
 
 // The first byte from a place on in which two registers differ, or the end of the first.
 fn first_byte(a: &[u8], b: &[u8], from: usize) -> usize {

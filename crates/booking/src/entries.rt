@@ -1,6 +1,6 @@
 // A line for each call in the journal.
 use crate::Call;
-use announcing::Answer;
+use calls::Answer;
 use files::Tail;
 
 // Whether this is the announcement that was taken in last.
@@ -23,7 +23,7 @@ fn stands(register: &[u8], line: &[u8]) -> bool {
     if told[0] != 0 {
         return true;
     }
-    if kinds[0] == rules::ANNOUNCE {
+    if kinds[0] == calls::ANNOUNCE {
         return waits_last(register, xs[0], ys[0]);
     }
     text::halfword(register, 2) == xs[0]

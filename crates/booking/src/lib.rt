@@ -1,13 +1,13 @@
 // start, session, announce and preview: the register's calls over files.
 mod entries;
 
-use announcing::Answer;
+use calls::ANNOUNCE;
+use calls::Answer;
+use calls::SESSION;
+use calls::START;
 use entries::record;
 use files::Loaded;
 use libc::STDOUT_FILENO;
-use rules::ANNOUNCE;
-use rules::SESSION;
-use rules::START;
 use terminal::DONE;
 use terminal::TROUBLE;
 use terminal::refuse;
@@ -96,7 +96,7 @@ fn call_locked(fd: i32, call: Call, calendar: &[u8], path: &[u8], beside: &[u8])
         return TROUBLE;
     }
     let before = register;
-    let answer = announcing::call_by_kind(calendar, &mut register, call.kind, call.x, call.y);
+    let answer = calling::call_by_kind(calendar, &mut register, call.kind, call.x, call.y);
     if answer.number != 0 {
         return turn_down(fd, call, answer, beside, calendar, &before);
     }
@@ -152,7 +152,7 @@ pub fn make(kind: u8, calendar: &[u8]) -> i32 {
 
 // What the session would answer, and each row that it would add.
 fn foresee(call: Call, calendar: &[u8], before: &[u8], after: &mut [u8]) -> i32 {
-    let answer = announcing::call_by_kind(calendar, after, call.kind, call.x, call.y);
+    let answer = calling::call_by_kind(calendar, after, call.kind, call.x, call.y);
     if answer.number != 0 {
         return refuse(
             calendar,

@@ -8,7 +8,7 @@ use native.Mathlib.Omega.{arith}
 use borrow.Author.Tests.{lt-leb, le-leb, leb-true, eq-eqb, ne-eqb}
 use Rattle.base.specs.declared.Tier.the-variants.{N, M, F}
 use Rattle.base.proofs.Tests.{byLe}
-use Rattle.base.proofs.SearchLaws.{first-end, first-hit, first-skip, first-found, first-weaker}
+use Rattle.base.proofs.SearchLaws.{first-end, first-hit, first-skip, first-found, first-weaker, first-high}
 use Rattle.dates.specs.Months.{monthCount, dayCount, monthOf}
 use Rattle.dates.proofs.Laws.{first-day-mono, third-friday-before, month-of-below, in-month}
 use Rattle.calendar.specs.Calendar.{Passes, expiryOf}
@@ -88,3 +88,15 @@ live-tiers f =
       tier-f f (nextQuarter f + 3) (omega arith),
       tier-f f (nextQuarter f + 6) (omega arith),
     )
+
+-- ---- live months
+-- past the calendar's last day no month is live
+pub live-top : (cal : List ℕ) (d : ℕ) → firstLive cal d ≤ monthCount
+unfolding firstLive
+live-top cal d = first-high (unexpired cal d) 0 monthCount (omega arith)
+
+pub live-past : (cal : List ℕ) (d : ℕ) → dayCount ≤ d → firstLive cal d ≡ monthCount
+live-past cal d h =
+    byLe monthCount (firstLive cal d)
+    (λ g. omega (arith, live-top cal d))
+    (λ g. absurd (omega (arith, live-day cal d g)))

@@ -1,16 +1,16 @@
 // The C interface: exports alone, each a total function over plain slices and numbers. include/sindhopul.h declares them.
 use calendar::Checked;
-use listing::Announced;
-use listing::Listed;
+use calls::Announced;
+use calls::Listed;
+use calls::Place;
 use names::Series;
-use register::Place;
 ghost use mathlib.Core.Path.{_≡_};
 ghost use Rattle.calendar.specs.Calendar.{checkOf};
 ghost use Rattle.names.specs.Names.{writeCause, written, readOf};
 ghost use Rattle.rules.specs.Rulebook.{rules};
-ghost use Rattle.rules.specs.Calls as Call;
-ghost use Rattle.register.specs.Opening.{rowsPlace};
-ghost use Rattle.listing.specs.Calls.{afterAt, listedAt, announcedAt};
+ghost use Rattle.calls.specs.Calls as Call;
+ghost use Rattle.calls.specs.RowsCall.{rowsPlace};
+ghost use Rattle.calls.specs.Answers.{afterAt, listedAt, announcedAt};
 
 #[no_mangle]
 pub extern "C" fn sindhopul_calendar_check(calendar: &[u8]) -> Checked
@@ -62,7 +62,7 @@ pub extern "C" fn sindhopul_announce(
 pub extern "C" fn sindhopul_rows(calendar: &[u8], register: &[u8], month: u32) -> Place
     ensures { λ r. ⌜ r ≡ rowsPlace (rules (now (calendar .entry))) (now (register .entry)) month ⌝ }
 {
-    register::rows_place(calendar, register, month)
+    rows::rows_place(calendar, register, month)
 }
 
 #[no_mangle]

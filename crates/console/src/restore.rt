@@ -59,7 +59,7 @@ fn run_calls(
     compare(text, &numbers, told, kinds.len())
 }
 
-// `history::replay` with as many numbers as there are calls. Its contract is the closing property of demand 3.
+// `replaying::replay` with as many numbers as there are calls. Its contract is the closing property of demand 3.
 fn replay(
     calendar: &[u8],
     kinds: &[u8],
@@ -70,7 +70,7 @@ fn replay(
 ) {
     let n = kinds.len();
     if n <= numbers.len() {
-        history::replay(calendar, kinds, xs, ys, register, &mut numbers[0..n]);
+        replaying::replay(calendar, kinds, xs, ys, register, &mut numbers[0..n]);
     }
 }
 

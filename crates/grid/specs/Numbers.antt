@@ -55,3 +55,10 @@ pub record RequiredNumbers (t : Tier) (close low high : ℕ) : Type 0 where
   pub order : low ≤ high
   pub lowest : price low ≡ requiredLow t close
   pub highest : price high ≡ requiredHigh t close
+
+-- how far apart prices stand in grid N at a price, and where its band ends
+unfoldable pub bandStep : ℕ → ℕ
+bandStep p = cond (ltb p 480) 5 (cond (ltb p 1000) 10 25)
+
+unfoldable pub bandEnd : ℕ → ℕ
+bandEnd p = cond (ltb p 480) 480 (cond (ltb p 1000) 1000 10000)

@@ -1,10 +1,10 @@
 // The strike grids: prices on a grid, the nearest price to a close, and what a close requires.
 use base::Tier;
 ghost use mathlib.Core.Path.{_≡_};
-ghost use Prim.Native.Nat.{_≤_};
+ghost use Prim.Native.Nat.{_*_, _≤_};
 ghost use Rattle.base.specs.Lists.{elem};
 ghost use Rattle.grid.specs.Grid.{gridOf, requiredLow, requiredHigh, lowestClose, highestClose, closeTaken};
-ghost use Rattle.grid.specs.Numbers.{price, numberOf, stride, topNumber, Rounded, NearestNumber, RequiredNumbers};
+ghost use Rattle.grid.specs.Numbers.{price, numberOf, stride, topNumber, Rounded, NearestNumber, RequiredNumbers, bandStep, bandEnd};
 
 // The closes that are taken, in hundredths of a point; any other is cause 21.
 pub const LOWEST_CLOSE: u32 = 9000;
@@ -145,4 +145,32 @@ pub fn required_strikes(tier: Tier, close: u32) -> Strikes
     let low = price_at(numbers.low);
     let high = price_at(numbers.high);
     Strikes { low, high }
+}
+
+// The band of a grid in which a price lies: how far apart its prices stand at a stride, and where it ends.
+pub struct Band {
+    pub step: u64,
+    pub end: u64,
+}
+
+pub fn band_of(price: u64, stride: u64) -> Band
+    requires { ⌜ stride ≤ 4 ⌝ }
+    ensures { λ r. ⌜ (r .step ≡ stride * bandStep price) × (r .step ≤ 100) × (r .end ≡ bandEnd price) ⌝ }
+{
+    if price < 480 {
+        Band {
+            step: stride * 5,
+            end: 480,
+        }
+    } else if price < 1000 {
+        Band {
+            step: stride * 10,
+            end: 1000,
+        }
+    } else {
+        Band {
+            step: stride * 25,
+            end: 10000,
+        }
+    }
 }

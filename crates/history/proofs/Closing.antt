@@ -4,7 +4,7 @@ use mathlib.Core.Path.{_≡_, refl, sym, ap, _∙_, subst}
 use mathlib.Core.Bool.{Bool, true}
 use mathlib.Core.List.{List, [], _∷_, _++_, map}
 use mathlib.Core.Option.{Option, some}
-use Prim.Native.Nat.{ℕ, suc, _≤_, _<_}
+use Prim.Native.Nat.{ℕ, _≤_, _<_}
 use native.Mathlib.Omega.{arith}
 use lib.Dec.{leb, eqb}
 use lib.ListN.{length, length-append, length-map}
@@ -16,18 +16,18 @@ use Rattle.base.proofs.ListLaws.{elem-here, elem-there}
 use Rattle.base.proofs.CauseLaws.{none-of, not-cause}
 use Rattle.rules.specs.Rules.{Moment, Rules, next}
 use Rattle.rules.specs.Rulebook.{rules}
-use Rattle.rules.specs.Calls.{Call}
+use Rattle.calls.specs.Calls.{Call}
 use Rattle.rules.proofs.Laws.{Laws, total}
 use Rattle.rules.proofs.RulebookLaws.{laws}
-use Rattle.register.specs.Rows.{Entry, entryOk, Row, ladder, rowsOf}
-use Rattle.register.specs.Register.{Body, Reg, empty, running, entriesOk, announceCauses, waitingOk}
-use Rattle.register.proofs.RowLaws.{entry-first}
-use Rattle.listing.specs.Listing.{number, accepted}
+use Rattle.layout.specs.Rows.{Entry, entryOk, Row, ladder, rowsOf}
+use Rattle.layout.specs.Register.{Body, Reg, empty, running, entriesOk, announceCauses, waitingOk}
+use Rattle.layout.proofs.RowLaws.{entry-first, ladder-length}
+use Rattle.calls.specs.Listing.{number, accepted}
 use Rattle.history.specs.History.{History, blank, between, acceptedCall, heard, told, monthTold, monthsTold, rowsTold}
-use Rattle.register.specs.Bytes.{registerLength, mostRows, bodyOf, bodyBytes, regOf, bytesOf, inLayout}
-use Rattle.register.specs.Opening.{opened, stands, emptyOrWell}
-use Rattle.register.proofs.ByteLaws.{PlacesFit, RowsFit, Fits, RegFits, back, body-back, count-back, bytes-length, layout-kept}
-use Rattle.listing.specs.Calls.{numberAt, afterAt}
+use Rattle.layout.specs.Bytes.{registerLength, mostRows, bodyOf, bodyBytes, regOf, bytesOf, inLayout}
+use Rattle.layout.specs.Opening.{opened, stands, emptyOrWell}
+use Rattle.layout.proofs.ByteLaws.{PlacesFit, RowsFit, Fits, RegFits, back, body-back, count-back, bytes-length, layout-kept}
+use Rattle.calls.specs.Answers.{numberAt, afterAt}
 use Rattle.history.specs.Claim.{emptyRegister, finalAt, numbersAt, rowTold, rowsIn, HoldsDay, ClaimAt, Claim}
 use Rattle.history.proofs.Simulation.{Running, Agree, key, between-is, accept}
 use Rattle.history.proofs.Ascend.{rows-ascend}
@@ -44,11 +44,6 @@ pub total-listed : (f : ℕ → ℕ → Bool) (G : ℕ → List ℕ) (L : List �
 unfolding total
 total-listed f G [] = omega arith
 total-listed f G (m ∷ ms) = let h = total-listed f G ms in let k = select-le (f m) (G m) in omega arith
-
-pub ladder-length : (m : ℕ) (f : ℕ → Entry) (ps : List ℕ) → length (ladder m f ps) ≡ length ps
-unfolding ladder
-ladder-length m f [] = refl
-ladder-length m f (p ∷ ps) = ap suc (ladder-length m f ps)
 
 pub rows-total : (L : List ℕ) (G : ℕ → List ℕ) (f : ℕ → ℕ → Entry) → length (rowsOf L G f) ≡ total G L
 unfolding rowsOf total

@@ -2,5 +2,3 @@ pub mod Simulation
 pub mod Sound
 pub mod Ascend
 pub mod Closing
-pub mod JournalLaws
-pub mod Outcomes

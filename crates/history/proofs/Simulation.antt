@@ -15,12 +15,12 @@ use Rattle.base.proofs.ListLaws.{within-i, within-l, within-r, elem-select, lea
 use Rattle.base.proofs.CauseLaws.{none-of, not-cause}
 use Rattle.grid.specs.Grid.{closeTaken}
 use Rattle.rules.specs.Rules.{Moment, Rules, next}
-use Rattle.rules.specs.Calls.{Call, start, session, announce}
+use Rattle.calls.specs.Calls.{Call, start, session, announce}
 use Rattle.rules.proofs.Laws.{Laws}
-use Rattle.register.specs.Rows.{Entry, newEntry, rowsOf, find, pricesOf}
-use Rattle.register.specs.Register.{Body, Reg, empty, running, waitingOf, spanLow, spanHigh, listed, announceCauses}
-use Rattle.register.proofs.RowLaws.{find-rowsOf, elem-prices, rowsOf-same}
-use Rattle.listing.specs.Listing.{closeLow, closeHigh, newLow, newHigh, kept, newOrigin, startBody, sessionBody, announceBody, number, accepted}
+use Rattle.layout.specs.Rows.{Entry, newEntry, rowsOf, find, pricesOf}
+use Rattle.layout.specs.Register.{Body, Reg, empty, running, waitingOf, spanLow, spanHigh, listed, announceCauses}
+use Rattle.layout.proofs.RowLaws.{find-rowsOf, elem-prices, rowsOf-same}
+use Rattle.calls.specs.Listing.{closeLow, closeHigh, newLow, newHigh, kept, newOrigin, startBody, sessionBody, announceBody, number, accepted}
 use Rattle.history.specs.History.{History, awaited, orElse, between, dated, onStart, takenIn, lowAfter, highAfter, onSession, ifDay, acceptedCall}
 
 module _ (R : Rules) where

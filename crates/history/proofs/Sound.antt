@@ -11,17 +11,15 @@ use borrow.Author.Tests.{eqb-true, eq-eqb, leb-false, le-leb, ltb-false, not-fal
 use Rattle.base.specs.Lists.{elem, within}
 use Rattle.base.specs.Causes.{firstOf}
 use Rattle.base.proofs.Tests.{byBool, and-l, and-r, and-i, or-fr, eqb-self}
-use Rattle.base.proofs.ListLaws.{elem-here, elem-there}
 use Rattle.base.proofs.CauseLaws.{none-of, not-cause}
 use Rattle.dates.specs.Months.{dayCount}
 use Rattle.rules.specs.Rules.{Moment, Rules}
-use Rattle.rules.specs.Calls.{Call, start, session, announce}
+use Rattle.calls.specs.Calls.{Call, start, session, announce}
 use Rattle.rules.proofs.Laws.{Laws}
-use Rattle.register.specs.Rows.{Entry, newEntry, entryOk, Row, ladder, rowsOf, find, pricesOf}
-use Rattle.register.specs.Register.{Body, Reg, empty, running, waitingOf, spanLow, spanHigh, sameKeys, entriesOk, listed, announceCauses, waitingOk, wellFormed}
-use Rattle.register.proofs.Well.{all-some}
-use Rattle.register.proofs.RowLaws.{entry-later, entry-new, rowsOf-same}
-use Rattle.listing.specs.Listing.{closeLow, closeHigh, newLow, newHigh, kept, newOrigin, startBody, sessionBody, announceBody, number, accepted}
+use Rattle.layout.specs.Rows.{Entry, newEntry, entryOk, Row, ladder, rowsOf, find, pricesOf}
+use Rattle.layout.specs.Register.{Body, Reg, empty, running, waitingOf, spanLow, spanHigh, sameKeys, entriesOk, listed, announceCauses, waitingOk, wellFormed}
+use Rattle.layout.proofs.RowLaws.{all-some, entry-later, entry-new, rowsOf-same}
+use Rattle.calls.specs.Listing.{closeLow, closeHigh, newLow, newHigh, kept, newOrigin, startBody, sessionBody, announceBody, number, accepted}
 use Rattle.history.specs.History.{History, between}
 use Rattle.history.proofs.Simulation.{Running, prices-are, key-i, span-low, span-high, session-told}
 

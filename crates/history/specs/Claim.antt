@@ -9,10 +9,11 @@ use lib.Dec.{eqb, ltb}
 use lib.ListN.{length, drop, replicate}
 use Rattle.base.specs.Lists.{elem}
 use Rattle.rules.specs.Rules.{Moment, Rules}
-use Rattle.rules.specs.Calls.{Call}
-use Rattle.register.specs.Rows.{Row}
-use Rattle.register.specs.Bytes.{registerLength, mostRows, rowsFrom, at16, readRows}
-use Rattle.listing.specs.Calls.{numberAt, afterAt}
+use Rattle.calls.specs.Calls.{Call}
+use Rattle.layout.specs.Rows.{Row}
+use Rattle.layout.specs.Bytes.{registerLength, mostRows, rowsFrom, readRows}
+use Rattle.base.specs.Words.{at16}
+use Rattle.calls.specs.Answers.{numberAt, afterAt}
 use Rattle.history.specs.History.{History, between, rowsTold}
 
 -- the empty register, from which every list of calls begins

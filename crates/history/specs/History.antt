@@ -8,7 +8,7 @@ use Prim.Native.Nat.{ℕ}
 use lib.Dec.{eqb}
 use Rattle.base.specs.Lists.{elem, select, within, leastOf, greatestOf}
 use Rattle.rules.specs.Rules.{Moment, Rules}
-use Rattle.rules.specs.Calls.{Call, start, session, announce}
+use Rattle.calls.specs.Calls.{Call, start, session, announce}
 
 -- a day, at first none; the announced prices waiting, each with its month; a lowest and a highest price for each live month;
 -- first days for prices of these months

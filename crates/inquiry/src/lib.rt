@@ -16,7 +16,7 @@ pub fn why(
     month: u32,
     price: u32,
 ) -> usize {
-    let number = register::rows_number(calendar, register, month) as u32;
+    let number = rows::rows_number(calendar, register, month) as u32;
     if !is_answered(number) {
         let opens = register::opening(calendar, register);
         let value = opens.month as u32;
@@ -64,7 +64,7 @@ fn answer(
     price: u32,
     tiers: u32,
 ) -> usize {
-    let rows = register::rows(calendar, register, month);
+    let rows = rows::rows(calendar, register, month);
     let end = reading::size(rows);
     if end == 0 {
         return months::not_live(out, at, calendar, register, month);

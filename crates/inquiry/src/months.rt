@@ -2,7 +2,7 @@
 use dates::MONTHS;
 use lookup::OUTSIDE;
 use phrases::fill;
-use register::LAST_FIRST_MONTH;
+use rules::LAST_FIRST_MONTH;
 
 // The first session on which a month is the first live one: the next after the expiry date of the month before. There
 // is none behind the last month that may be the first live one.

@@ -3,10 +3,10 @@ use crate::case::Case;
 use crate::months;
 use grid::HIGHEST_CLOSE;
 use grid::LOWEST_CLOSE;
+use layout::MOST_WAITING;
 use lookup::OUTSIDE;
 use phrases::fill;
-use register::LAST_FIRST_MONTH;
-use register::MOST_WAITING;
+use rules::LAST_FIRST_MONTH;
 
 // Whether a close requires prices up to the given one, or only prices above it.
 fn reaches(tier: u32, close: u32, price: u32, is_above: bool) -> bool {

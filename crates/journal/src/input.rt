@@ -1,8 +1,8 @@
 // Reading a journal into lists of calls.
 use crate::UNTOLD;
-use rules::ANNOUNCE;
-use rules::SESSION;
-use rules::START;
+use calls::ANNOUNCE;
+use calls::SESSION;
+use calls::START;
 use text::Parsed;
 
 // Why a line is refused.

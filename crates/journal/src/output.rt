@@ -1,9 +1,9 @@
 // Writing a line of the journal. Every call whose numbers have at most nine digits reads back.
+use calls::ANNOUNCE;
+use calls::START;
 use dates::DAYS;
 use dates::MONTHS;
 use phrases::fill;
-use rules::ANNOUNCE;
-use rules::START;
 
 // Which form a call has. A day past the calendar is written as its number, and so is a month past the last.
 fn call_form(kind: u8, x: u32) -> u32 {

@@ -8,20 +8,20 @@ use lib.ListN.{length, take, drop, length-drop}
 use lib.Seq.{drop-drop, take-all}
 use borrow.Rule.Slice.PartMut.{putMid}
 use Rattle.base.proofs.Tests.{byLe}
-use Rattle.grid.specs.Numbers.{price, numberOf, stride, topNumber}
+use Rattle.grid.specs.Numbers.{price, numberOf, stride, topNumber, bandStep}
 use Rattle.grid.proofs.Prices.{price-strict, price-mono}
 use Rattle.grid.proofs.Grids.{stride-pos, stride-le}
 use Rattle.grid.proofs.GridLaws.{price-le}
-use Rattle.register.specs.Rows.{Row}
-use Rattle.register.specs.Bytes.{two, rowsBytes}
-use Rattle.register.specs.Scan.{bandStep}
-use Rattle.register.proofs.ByteLaws.{rows-length}
-use Rattle.register.proofs.Runs.{next-price}
+use Rattle.layout.specs.Rows.{Row}
+use Rattle.base.specs.Words.{two}
+use Rattle.layout.specs.Bytes.{rowsBytes}
+use Rattle.layout.proofs.ByteLaws.{rows-length}
+use Rattle.grid.proofs.Runs.{next-price, next-on}
 use Rattle.ladders.specs.declared.Plan.{Plan}
 use Rattle.ladders.specs.declared.Stretch.{Stretch}
 use Rattle.ladders.specs.Writing.{rowsIn, rowBytes, pricesIn, leftAt, ladderBy, leftBy, Found, Alike, Spanned}
-use Rattle.ladders.proofs.Between.{between, between-none, between-next, grid-number, next-multiple}
-use Rattle.ladders.proofs.Parts.{put-next, drop-next}
+use Rattle.grid.proofs.Between.{between, between-none, between-next, grid-number}
+use Rattle.base.proofs.Parts.{put-next, drop-next}
 
 pub ladder-count : (m : Plan) (ps : List ℕ) (old : List Row) → length (ladderBy m ps old) ≡ length ps
 unfolding ladderBy
@@ -109,7 +109,7 @@ module _ (m : Plan) (start old : List ℕ) where
               count = let c = inv .count in omega (arith, rw next at c);
               from-in = let c = inv .from-in in omega (arith, simp length-drop at (f .in-range));
               positive = let c = inv .positive in omega arith;
-              multiple = next-multiple (m .tier) number (inv .multiple);
+              multiple = next-on (m .tier) number (inv .multiple);
             }
 
       -- past the last number all is written

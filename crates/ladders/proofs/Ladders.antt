@@ -8,12 +8,13 @@ use native.Mathlib.Omega.{arith}
 use lib.ListN.{length, take, drop, replicate, length-append, length-drop, take-append-drop}
 use lib.Seq.{take-at, drop-at, drop-drop, take-all, length-take-le}
 use borrow.Rule.Slice.PartMut.{putMid}
-use Rattle.register.specs.Rows.{Row}
-use Rattle.register.specs.Bytes.{registerLength, two, rowsBytes, padded}
-use Rattle.register.proofs.ByteLaws.{rows-length}
+use Rattle.layout.specs.Rows.{Row}
+use Rattle.layout.specs.Bytes.{registerLength, rowsBytes, padded}
+use Rattle.base.specs.Words.{two}
+use Rattle.layout.proofs.ByteLaws.{rows-length}
 use Rattle.ladders.specs.declared.Plan.{Plan}
 use Rattle.ladders.specs.Writing.{rowsIn, pricesIn, ladderBy, leftBy, laddersFrom, countFrom, Ready}
-use Rattle.ladders.proofs.Parts.{whole-part, put-rest, put-next, drop-next}
+use Rattle.base.proofs.Parts.{whole-part, put-rest, put-next, drop-next}
 use Rattle.ladders.proofs.Ladder.{ladder-count}
 
 pub rows-append : (xs ys : List Row) → rowsBytes (xs ++ ys) ≡ rowsBytes xs ++ rowsBytes ys

@@ -1,6 +1,4 @@
 pub mod OldRows
-pub mod Between
-pub mod Parts
 pub mod Ladder
 pub mod Ladders
 pub mod SpanLaws

@@ -8,8 +8,9 @@ use native.Mathlib.Omega.{arith}
 use lib.Dec.{eqb}
 use lib.ListN.{length, getD, drop, length-drop}
 use Rattle.base.proofs.Tests.{byLe, clash}
-use Rattle.register.specs.Rows.{newEntry, Row, row}
-use Rattle.register.specs.Bytes.{at16, readRows}
+use Rattle.layout.specs.Rows.{newEntry, Row, row}
+use Rattle.base.specs.Words.{at16}
+use Rattle.layout.specs.Bytes.{readRows}
 use Rattle.ladders.specs.declared.Plan.{Plan}
 use Rattle.ladders.specs.Writing.{rowsIn, addedOrigin, isNext, entryAt, leftAt, Found}
 

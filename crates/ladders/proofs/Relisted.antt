@@ -16,8 +16,8 @@ use Rattle.base.proofs.Tests.{byBool, clash, and-i, or-e, eqb-self}
 use Rattle.base.proofs.ListLaws.{elem-here, elem-there}
 use Rattle.base.proofs.Rising.{rises, rises-tail, rises-all, risesAll}
 use Rattle.rules.proofs.Laws.{total}
-use Rattle.register.specs.Rows.{Entry, newEntry, Row, row, ladder, rowsOf, find}
-use Rattle.register.proofs.RowLaws.{find-rowsOf, ladder-same, rowsOf-same}
+use Rattle.layout.specs.Rows.{Entry, newEntry, Row, row, ladder, rowsOf, find}
+use Rattle.layout.proofs.RowLaws.{find-rowsOf, ladder-same, rowsOf-same}
 use Rattle.ladders.specs.declared.Plan.{Plan}
 use Rattle.ladders.specs.Writing.{pricesIn, addedOrigin, isNext, ladderBy, leftBy, laddersFrom, countFrom}
 use Rattle.ladders.proofs.OldRows.{entry-next, entry-new}

@@ -14,9 +14,10 @@ use borrow.Author.Tests.{eqb-true, eq-eqb, ne-eqb}
 use Rattle.base.specs.Lists.{greatestOf}
 use Rattle.base.proofs.Tests.{byLe, and-l, and-r}
 use Rattle.base.proofs.ListLaws.{least-step}
-use Rattle.register.specs.Register.{waitingOf}
-use Rattle.register.specs.Bytes.{at16, readPlaces}
-use Rattle.register.specs.Scan.{spanIn}
+use Rattle.layout.specs.Register.{waitingOf}
+use Rattle.base.specs.Words.{at16}
+use Rattle.layout.specs.Bytes.{readPlaces}
+use Rattle.layout.specs.Spans.{spanIn}
 use Rattle.ladders.specs.Spans.{six, announcedPair, sameSpans}
 
 -- ---- six in a row

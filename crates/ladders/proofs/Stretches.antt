@@ -10,11 +10,10 @@ use lib.ListN.{length, getD}
 use borrow.Author.Tests.{le-leb, lt-leb, eq-eqb, ne-eqb}
 use Rattle.base.specs.Lists.{within}
 use Rattle.base.proofs.Tests.{byBool, byLe, and-i}
-use Rattle.grid.specs.Numbers.{stride}
-use Rattle.register.specs.Rows.{Row}
-use Rattle.register.specs.Bytes.{at16}
-use Rattle.register.specs.Scan.{bandStep, bandEnd}
-use Rattle.register.proofs.Steps.{band-kept}
+use Rattle.grid.specs.Numbers.{stride, bandStep, bandEnd}
+use Rattle.layout.specs.Rows.{Row}
+use Rattle.base.specs.Words.{at16}
+use Rattle.grid.proofs.Runs.{band-kept}
 use Rattle.ladders.specs.declared.Plan.{Plan}
 use Rattle.ladders.specs.Writing.{rowsIn, addedOrigin, isNext, nextPrice, Alike, Ends}
 use Rattle.ladders.proofs.OldRows.{rows-none, rows-some, next-there, found-next, found-new}

@@ -8,8 +8,8 @@ use lib.ListN.{getD}
 use Rattle.base.specs.Lists.{leastOf, greatestOf}
 use Rattle.calendar.specs.Live.{tierOf}
 use Rattle.grid.specs.Grid.{requiredLow, requiredHigh}
-use Rattle.register.specs.Register.{waitingOf}
-use Rattle.register.specs.Scan.{spanIn}
+use Rattle.layout.specs.Register.{waitingOf}
+use Rattle.layout.specs.Spans.{spanIn}
 
 -- one pair for each of the six live months
 abbrev pub six : (ℕ → List ℕ) → List (List ℕ)

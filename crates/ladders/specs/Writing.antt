@@ -11,11 +11,11 @@ use Rattle.base.specs.Lists.{elem, select, within}
 use Rattle.dates.specs.Months.{monthCount}
 use Rattle.calendar.specs.Live.{tierOf}
 use Rattle.grid.specs.Grid.{gridOf}
-use Rattle.grid.specs.Numbers.{stride}
+use Rattle.grid.specs.Numbers.{stride, bandStep}
 use Rattle.grid.specs.declared.Strikes.{Strikes}
-use Rattle.register.specs.Rows.{Entry, newEntry, Row, row}
-use Rattle.register.specs.Bytes.{two, mostRows, readRows}
-use Rattle.register.specs.Scan.{bandStep}
+use Rattle.layout.specs.Rows.{Entry, newEntry, Row, row}
+use Rattle.base.specs.Words.{two}
+use Rattle.layout.specs.Bytes.{mostRows, readRows}
 use Rattle.ladders.specs.declared.Plan.{Plan}
 use Rattle.ladders.specs.declared.Stretch.{Stretch}
 

@@ -9,7 +9,7 @@ ghost use Prim.Native.Nat.{_+_, _*_, _≤_, _<_};
 ghost use lib.ListN.{length, take, drop, getD, replicate};
 ghost use Rattle.base.specs.Lists.{within};
 ghost use Rattle.dates.specs.Months.{monthCount};
-ghost use Rattle.register.specs.Bytes.{registerLength, mostRows, rowsFrom, rowsBytes, padded};
+ghost use Rattle.layout.specs.Bytes.{registerLength, mostRows, rowsFrom, rowsBytes, padded};
 ghost use Rattle.ladders.specs.Writing.{rowsIn, rowBytes, pricesIn, addedOrigin, nextPrice, ladderBy, leftBy, Ends, Alike, Spanned, laddersFrom, strikesAt, planAt, Ready};
 
 // How one month's ladder is written.
@@ -77,8 +77,8 @@ fn next_price(plan: Plan, old: &[u8]) -> u16
     if old.len() < 8 {
         return 0;
     }
-    if plan.month == register::word(old, 0) {
-        register::word(old, 2)
+    if plan.month == base::word(old, 0) {
+        base::word(old, 2)
     } else {
         0
     }
@@ -116,9 +116,9 @@ fn stretch_from(plan: Plan, old: &[u8], price: u64) -> Stretch
 {
     let next = next_price(plan, old);
     let tier = plan.tier;
-    let band = register::band_of(price, grid::stride_of(tier) as u64);
+    let band = grid::band_of(price, grid::stride_of(tier) as u64);
     if price == next as u64 {
-        let first = register::word(old, 4);
+        let first = base::word(old, 4);
         return Stretch {
             end: price + 1,
             step: band.step,
@@ -258,7 +258,7 @@ pub fn write_ladders(
     ensures { λ r. ⌜ r ≡ rowsFrom + 8 * length (laddersFrom (planAt day origin months held wide spans) 0 6 (rowsIn (now (old .entry)))) ⌝ }
     ensures { λ _. ⌜ now (register .exit) ≡ take rowsFrom (now (register .entry)) ++ padded (8 * mostRows) (rowsBytes (laddersFrom (planAt day origin months held wide spans) 0 6 (rowsIn (now (old .entry))))) ⌝ }
 {
-    let mut at = register::ROWS;
+    let mut at = layout::ROWS;
     let mut from: usize = 0;
     let mut i: usize = 0;
     while i < 6 {

@@ -1,13 +1,13 @@
 // The six spans of a start or a session, each the lowest and the highest price, in the order of the live months.
-use register::PLACES;
+use layout::PLACES;
 ghost use mathlib.Core.Path.{_≡_};
 ghost use Prim.Native.Nat.{_≤_, min, max};
 ghost use lib.ListN.{length, getD, drop};
 ghost use Rattle.dates.specs.Months.{monthCount};
 ghost use Rattle.grid.specs.Grid.{lowestClose, highestClose};
-ghost use Rattle.register.specs.Bytes.{registerLength, placesFrom, readPlaces};
-ghost use Rattle.register.specs.Register.{mostWaiting};
-ghost use Rattle.register.specs.Scan.{spanIn};
+ghost use Rattle.layout.specs.Bytes.{registerLength, placesFrom, readPlaces};
+ghost use Rattle.layout.specs.Register.{mostWaiting};
+ghost use Rattle.layout.specs.Spans.{spanIn};
 ghost use Rattle.ladders.specs.Spans.{heldSpans, closePair, closeSpans, announcedPair, newPair, newSpans, sameSpans};
 
 fn lower(a: u16, b: u16) -> u16
@@ -92,8 +92,8 @@ fn with_announced(register: &[u8], n: usize, month: u16, span: [u16; 2]) -> [u16
     let mut high = span[1];
     let mut k: usize = 0;
     while k < n {
-        if register::word(register, PLACES + 4 * k) == month {
-            let price = register::word(register, PLACES + 4 * k + 2);
+        if base::word(register, PLACES + 4 * k) == month {
+            let price = base::word(register, PLACES + 4 * k + 2);
             low = lower(price, low);
             high = higher(price, high);
         }

@@ -18,19 +18,19 @@ use Rattle.calendar.specs.Live.{firstLive}
 use Rattle.grid.specs.Grid.{closeTaken}
 use Rattle.rules.specs.Rules.{Rules, lastFirstMonth}
 use Rattle.rules.specs.Rulebook.{rules}
-use Rattle.rules.specs.Calls as Call
-use Rattle.rules.specs.Calls.{Call}
-use Rattle.register.specs.Register.{empty, running}
-use Rattle.register.specs.Bytes.{registerLength, bodyBytes, bytesOf, at16, bodyOf, allZero, regOf, sameBytes, inLayout}
-use Rattle.register.specs.Scan.{openingCause, openingOf}
-use Rattle.register.specs.Opening.{emptyOrWell, stands, opened}
-use Rattle.register.specs.Spans.{runsWell, standingSpans}
-use Rattle.register.proofs.ByteLaws.{same-self}
-use Rattle.register.proofs.Kept.{zeros-are}
+use Rattle.calls.specs.Calls as Call
+use Rattle.calls.specs.Calls.{Call}
+use Rattle.layout.specs.Register.{empty, running}
+use Rattle.layout.specs.Bytes.{registerLength, bodyBytes, bytesOf, bodyOf, allZero, regOf, sameBytes, inLayout}
+use Rattle.base.specs.Words.{at16}
+use Rattle.register.specs.Check.{openingCause, openingOf}
+use Rattle.layout.specs.Opening.{emptyOrWell, stands, opened}
+use Rattle.layout.specs.Spans.{runsWell, standingSpans}
+use Rattle.layout.proofs.ByteLaws.{same-self, zeros-are}
 use Rattle.register.proofs.Well.{runs, run-held, first-low}
-use Rattle.listing.specs.declared.Listed.{Listed}
-use Rattle.listing.specs.Listing.{startBody, number, accepted}
-use Rattle.listing.specs.Calls.{numberAt, afterAt, rowsHeld, added, removed, listedAt}
+use Rattle.calls.specs.declared.Listed.{Listed}
+use Rattle.calls.specs.Listing.{startBody, number, accepted}
+use Rattle.calls.specs.Answers.{numberAt, afterAt, rowsHeld, added, removed, listedAt}
 use Rattle.listing.specs.Writing.{refusal, answer, sessionOf}
 use Rattle.listing.proofs.Opens.{Opens, by-calendar, by-length, by-status, goes-on, opens}
 

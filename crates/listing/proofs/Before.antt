@@ -20,12 +20,12 @@ use Rattle.calendar.proofs.LiveLaws.{live-day}
 use Rattle.grid.specs.Grid.{gridOf}
 use Rattle.rules.specs.Rules.{Rules, next}
 use Rattle.rules.specs.Rulebook.{firstAt, tierAt, rules}
-use Rattle.register.specs.Rows.{Row}
-use Rattle.register.specs.Register.{Body, waitingOf, announceCauses, waitingOk}
-use Rattle.register.specs.Bytes.{registerLength, two, placesBytes, rowsBytes, padded, bodyBytes, at16, readPlaces, readRows, bodyOf}
-use Rattle.register.proofs.ByteLaws.{places-length, rows-length, padded-length}
-use Rattle.register.proofs.Held.{Held, Facts}
-use Rattle.register.proofs.Kept.{places-count, rows-count}
+use Rattle.layout.specs.Rows.{Row}
+use Rattle.layout.specs.Register.{Body, waitingOf, announceCauses, waitingOk}
+use Rattle.layout.specs.Bytes.{registerLength, placesBytes, rowsBytes, padded, bodyBytes, readPlaces, readRows, bodyOf}
+use Rattle.base.specs.Words.{two, at16}
+use Rattle.layout.proofs.ByteLaws.{places-length, rows-length, padded-length, places-count, rows-count}
+use Rattle.layout.proofs.Held.{Held, Facts}
 use Rattle.register.proofs.Well.{Running, run-keeps, run-first, run-held}
 use Rattle.ladders.specs.Writing.{rowsIn}
 use Rattle.ladders.proofs.Ladders.{rows-append}

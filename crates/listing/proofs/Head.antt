@@ -7,8 +7,9 @@ use native.Mathlib.Omega.{arith}
 use lib.ListN.{length, take, drop, replicate, length-append, length-drop}
 use lib.Seq.{sets, sets-eq, length-take-le, drop-drop, drop-at}
 use borrow.Rule.Slice.PartMut.{putMid}
-use Rattle.register.specs.Rows.{Row}
-use Rattle.register.specs.Bytes.{registerLength, two, placesBytes, rowsBytes, padded, bodyBytes, bytesOf}
+use Rattle.layout.specs.Rows.{Row}
+use Rattle.layout.specs.Bytes.{registerLength, placesBytes, rowsBytes, padded, bodyBytes, bytesOf}
+use Rattle.base.specs.Words.{two}
 use Rattle.listing.specs.Writing.{quiet, headBytes}
 
 -- the eight bytes over a head of which the places are cleared

@@ -1,6 +1,6 @@
 -- The causes of a call, one after the other.
 -- Assumes nothing.
-use mathlib.Core.Path.{_≡_, refl, sym, ap, _∙_}
+use mathlib.Core.Path.{_≡_, sym, ap, _∙_}
 use mathlib.Core.Bool.{Bool, true, false, cond, not, _&&_}
 use mathlib.Core.List.{List, [], _∷_}
 use Prim.Native.Nat.{ℕ, _≤_, _<_}
@@ -10,22 +10,22 @@ use lib.ListN.{length, getD}
 use borrow.Author.Tests.{eqb-true, eqb-false, eq-eqb, ne-eqb, lt-ltb, le-ltb, ltb-false, not-false}
 use Rattle.base.specs.Search.{someIn}
 use Rattle.base.specs.Causes.{cause, firstOf}
-use Rattle.base.proofs.Tests.{byBool, byLe, and-l}
+use Rattle.base.proofs.Tests.{byBool, byLe}
 use Rattle.base.proofs.CauseLaws.{none-of, not-cause, caused, passed, alone}
 use Rattle.dates.specs.Months.{monthCount, dayCount}
 use Rattle.calendar.specs.declared.Checked.{Checked}
-use Rattle.calendar.specs.Calendar.{calendarLength, session, tailSet, lacks, calendarCauses, calendarCause, firstLacking, Passes, nextSession}
+use Rattle.calendar.specs.Calendar.{calendarLength, session, tailSet, lacks, calendarCauses, calendarCause, Passes, nextSession}
 use Rattle.calendar.specs.Live.{firstLive}
 use Rattle.calendar.proofs.LiveLaws.{live-day}
 use Rattle.grid.specs.Grid.{closeTaken}
 use Rattle.rules.specs.Rules.{lastFirstMonth}
 use Rattle.rules.specs.Rulebook.{firstAt, rules}
-use Rattle.rules.specs.Calls.{start, session as sessionCall}
-use Rattle.register.specs.Register.{Body, empty, running}
-use Rattle.register.specs.Bytes.{registerLength, allZero}
-use Rattle.register.specs.Scan.{openingCause, openingOf}
+use Rattle.calls.specs.Calls.{start, session as sessionCall}
+use Rattle.layout.specs.Register.{Body, empty, running}
+use Rattle.layout.specs.Bytes.{registerLength, allZero}
+use Rattle.register.specs.Check.{openingCause, openingOf}
 use Rattle.register.proofs.Opens.{zero-status, opens-calendar, opens-length, opens-status}
-use Rattle.listing.specs.Listing.{number}
+use Rattle.calls.specs.Listing.{number}
 use Rattle.listing.specs.Writing.{listingCause, Taken}
 
 -- ---- how a call opens

@@ -9,7 +9,7 @@ use native.Mathlib.Nat.{le-of-lt}
 use native.Mathlib.Omega.{arith}
 use lib.Dec.{eqb}
 use lib.ListN.{length, getD, take, drop, length-append}
-use borrow.Author.Tests.{eqb-true, eq-eqb, ne-eqb}
+use borrow.Author.Tests.{eq-eqb, ne-eqb}
 use Rattle.base.specs.Lists.{elem, within}
 use Rattle.base.proofs.Tests.{byBool, byLe, and-l, and-r, and-i}
 use Rattle.base.specs.declared.Tier.the-variants.{N}
@@ -27,29 +27,30 @@ use Rattle.grid.proofs.GridLaws.{required-low, required-high}
 use Rattle.rules.specs.Rules.{Moment, Rules}
 use Rattle.rules.specs.Rulebook.{firstAt, tierAt, rules}
 use Rattle.rules.proofs.RulebookLaws.{laws, grid-rises, live-rises}
-use Rattle.register.specs.Rows.{Entry, newEntry, Row, ladder, rowsOf, find}
-use Rattle.register.specs.Register.{Body, running, waitingOf, spanLow, spanHigh, listed}
-use Rattle.register.specs.Bytes.{registerLength, mostRows, rowsBytes, padded, bytesOf, at16}
-use Rattle.register.specs.Spans.{spansOf}
-use Rattle.register.specs.Scan.{spanIn}
-use Rattle.register.proofs.RowLaws.{rowsOf-same}
+use Rattle.layout.specs.Rows.{Entry, newEntry, Row, ladder, rowsOf, find}
+use Rattle.layout.specs.Register.{Body, running, waitingOf, spanLow, spanHigh, listed}
+use Rattle.layout.specs.Bytes.{registerLength, mostRows, rowsBytes, padded, bytesOf}
+use Rattle.base.specs.Words.{at16}
+use Rattle.layout.specs.Spans.{spansOf, spanIn}
+use Rattle.layout.proofs.RowLaws.{rowsOf-same, ladder-length}
 use Rattle.register.proofs.Well.{Running, run-first}
-use Rattle.register.proofs.Waiting.{span-in}
-use Rattle.register.proofs.Held.{Held, ladderOf, found, least-held, greatest-held}
+use Rattle.layout.proofs.SpanLaws.{span-in}
+use Rattle.layout.proofs.Held.{Held, ladderOf, found, least-held, greatest-held}
 use Rattle.ladders.specs.declared.Plan.{Plan}
 use Rattle.ladders.specs.Writing.{rowsIn, pricesIn, addedOrigin, laddersFrom, planAt, Spanned, Ready}
 use Rattle.ladders.specs.Spans.{heldSpans, closePair, closeSpans, announcedPair, newPair, newSpans, sameSpans}
-use Rattle.ladders.proofs.Between.{between}
+use Rattle.grid.proofs.Between.{between, near-count}
 use Rattle.ladders.proofs.Ladders.{ladders-count}
 use Rattle.ladders.proofs.SpanLaws.{by-six, same-at}
 use Rattle.ladders.proofs.Relisted.{added, laddersOver, leftOver, ladders-over, At, from-over}
-use Rattle.listing.specs.Listing.{kept, closeLow, closeHigh, newLow, newHigh, newOrigin, sessionBody}
-use Rattle.listing.specs.Calls as Calls
-use Rattle.listing.specs.Calls.{count, rowsHeld, removed}
-use Rattle.listing.specs.declared.Listed.{Listed}
+use Rattle.calls.specs.Listing.{kept, closeLow, closeHigh, newLow, newHigh, newOrigin, sessionBody}
+use Rattle.calls.specs.Answers as Calls
+use Rattle.calls.specs.Answers.{count, rowsHeld, removed}
+use Rattle.calls.specs.declared.Listed.{Listed}
 use Rattle.listing.specs.Writing.{answer, quiet, headBytes, Taken, droppedRows}
 use Rattle.listing.proofs.Head.{quiet-is}
-use Rattle.listing.proofs.Counting.{count-append, on, none-yet, count-months, of, ladder-all, rows-none, ladder-length, near-count}
+use Rattle.calls.proofs.CountLaws.{count-append, on, none-yet, of, ladder-all, rows-none}
+use Rattle.listing.proofs.Counting.{count-months}
 use Rattle.listing.proofs.Plans.{prices-rise, index-of, ready}
 use Rattle.listing.proofs.Before as B
 use Rattle.listing.proofs.Before.{rows-behind, old, well, rows-laid, holds, waits-next}

@@ -1,7 +1,7 @@
 -- What a start lists is what document 01 says.
 -- Assumes nothing.
 use mathlib.Core.Path.{_≡_, refl, sym, ap, _∙_}
-use mathlib.Core.Bool.{true, false, false≢true}
+use mathlib.Core.Bool.{false≢true}
 use mathlib.Core.List.{List, []}
 use Prim.Native.Nat.{ℕ, _+_, _≤_, _<_}
 use native.Mathlib.Omega.{arith}
@@ -16,19 +16,20 @@ use Rattle.grid.specs.Grid.{requiredLow, requiredHigh, lowestClose, highestClos
 use Rattle.grid.proofs.GridLaws.{required-low, required-high}
 use Rattle.rules.specs.Rulebook.{firstAt, tierAt, rules}
 use Rattle.rules.proofs.RulebookLaws.{live-rises}
-use Rattle.register.specs.Rows.{newEntry, Row, rowsOf}
-use Rattle.register.specs.Register.{empty, running, listed}
-use Rattle.register.specs.Bytes.{bytesOf}
+use Rattle.layout.specs.Rows.{newEntry, Row, rowsOf}
+use Rattle.layout.specs.Register.{empty, running, listed}
+use Rattle.layout.specs.Bytes.{bytesOf}
 use Rattle.ladders.specs.declared.Plan.{Plan}
 use Rattle.ladders.specs.Writing.{pricesIn, addedOrigin, laddersFrom, planAt, Ready}
 use Rattle.ladders.specs.Spans.{closePair, closeSpans}
 use Rattle.ladders.proofs.SpanLaws.{by-six}
 use Rattle.ladders.proofs.Relisted.{leftOver, ladders-over, At, from-over}
-use Rattle.listing.specs.Listing.{startBody}
-use Rattle.listing.specs.Calls.{rowsHeld, count, added, removed}
-use Rattle.listing.specs.declared.Listed.{Listed}
+use Rattle.calls.specs.Listing.{startBody}
+use Rattle.calls.specs.Answers.{rowsHeld, count, added, removed}
+use Rattle.calls.specs.declared.Listed.{Listed}
 use Rattle.listing.specs.Writing.{answer, quiet, Taken}
-use Rattle.listing.proofs.Counting.{on, count-months}
+use Rattle.calls.proofs.CountLaws.{on}
+use Rattle.listing.proofs.Counting.{count-months}
 use Rattle.listing.proofs.Plans.{prices-rise, ready}
 
 -- a close that is taken, and a day that has a live month

@@ -13,12 +13,13 @@ use Rattle.grid.specs.Grid.{closeTaken}
 use Rattle.grid.specs.Numbers.{numberOf}
 use Rattle.rules.specs.Rules.{Rules, lastFirstMonth}
 use Rattle.rules.specs.Rulebook.{rules}
-use Rattle.register.specs.Rows.{Row}
-use Rattle.register.specs.Register.{mostWaiting, Body, Reg, running}
-use Rattle.register.specs.Bytes.{registerLength, two, bodyOf, allZero}
-use Rattle.listing.specs.Listing.{sessionBody}
-use Rattle.listing.specs.Calls.{rowsHeld, added, removed}
-use Rattle.listing.specs.declared.Listed.{Listed}
+use Rattle.layout.specs.Rows.{Row}
+use Rattle.layout.specs.Register.{mostWaiting, Body, Reg, running}
+use Rattle.layout.specs.Bytes.{registerLength, bodyOf, allZero}
+use Rattle.base.specs.Words.{two}
+use Rattle.calls.specs.Listing.{sessionBody}
+use Rattle.calls.specs.Answers.{rowsHeld, added, removed}
+use Rattle.calls.specs.declared.Listed.{Listed}
 
 -- the answer of a call that is refused
 abbrev pub refusal : ℕ → ℕ → Listed

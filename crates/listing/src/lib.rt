@@ -1,43 +1,28 @@
 // Start and session on the register's bytes.
+use calls::Listed;
 use dates::DAYS;
-use register::LAST_FIRST_MONTH;
-use register::PLACES;
-use register::REGISTER_LENGTH;
-use register::ROWS;
+use layout::PLACES;
+use layout::REGISTER_LENGTH;
+use layout::ROWS;
+use rules::LAST_FIRST_MONTH;
 ghost use mathlib.Core.Path.{_≡_};
 ghost use mathlib.Core.Bool.{true};
 ghost use mathlib.Core.List.{_++_};
 ghost use Prim.Native.Nat.{_+_, _-_, _*_, _≤_, _<_};
-ghost use lib.ListN.{length, getD, take, drop, replicate};
+ghost use lib.ListN.{length, getD, take, drop};
 ghost use Rattle.dates.specs.Months.{dayCount};
 ghost use Rattle.calendar.specs.Calendar.{Passes, nextSession};
 ghost use Rattle.grid.specs.Numbers.{numberOf};
 ghost use Rattle.rules.specs.Rulebook.{rules};
-ghost use Rattle.rules.specs.Calls as Call;
-ghost use Rattle.register.specs.Register.{empty, running};
-ghost use Rattle.register.specs.Bytes.{registerLength, rowsFrom, at16, bytesOf, bodyOf};
-ghost use Rattle.register.specs.Spans.{runsWell, standingSpans};
+ghost use Rattle.calls.specs.Calls as Call;
+ghost use Rattle.layout.specs.Register.{empty, running};
+ghost use Rattle.layout.specs.Bytes.{registerLength, rowsFrom, bytesOf, bodyOf};
+ghost use Rattle.base.specs.Words.{at16};
+ghost use Rattle.layout.specs.Spans.{runsWell, standingSpans};
 ghost use Rattle.ladders.specs.Writing.{rowsIn, laddersFrom, planAt, Ready};
-ghost use Rattle.listing.specs.Listing.{number, startBody};
-ghost use Rattle.listing.specs.Calls.{afterAt, listedAt};
+ghost use Rattle.calls.specs.Listing.{number, startBody};
+ghost use Rattle.calls.specs.Answers.{afterAt, listedAt};
 ghost use Rattle.listing.specs.Writing.{refusal, listingCause, answer, quiet, headBytes, Taken, sessionOf, droppedRows};
-
-// What a start or a session answers: its number, and where that is 0 the rows added, the rows removed and the row count;
-// beside 13 the month in `added`.
-#[repr(C)]
-pub struct Listed {
-    pub number: u16,
-    pub added: u16,
-    pub removed: u16,
-    pub rows: u16,
-}
-
-// What an announcement answers: its number, and where that is 0 how many wait; beside 13 the month in `waiting`.
-#[repr(C)]
-pub struct Announced {
-    pub number: u16,
-    pub waiting: u16,
-}
 
 fn refused(number: u16, month: u16) -> Listed
     ensures { λ r. ⌜ r ≡ refusal number month ⌝ }
@@ -83,7 +68,7 @@ fn session_cause(calendar: &[u8], register: &[u8], day: u32, close: u32) -> u16
     requires { ⌜ Passes (now calendar) × (length (now register) ≡ registerLength) × (at16 (now register) 2 < dayCount) ⌝ }
     ensures { λ r. ⌜ r ≡ number (rules (now (calendar .entry))) (Call.session day close) (running (bodyOf (now (register .entry)))) ⌝ }
 {
-    let before = register::word(register, 2);
+    let before = base::word(register, 2);
     let next = calendar::next_session(calendar, before);
     if day != next as u32 {
         return 19;
@@ -220,8 +205,8 @@ fn list_session(
     ensures { λ r. ⌜ r ≡ answer (rules (now (calendar .entry))) (running (bodyOf (now (register .entry)))) (running (sessionOf (now (calendar .entry)) (now (register .entry)) day close)) ⌝ }
     ensures { λ _. ⌜ now (register .exit) ≡ bytesOf (running (sessionOf (now (calendar .entry)) (now (register .entry)) day close)) ⌝ }
 {
-    let rows = register::word(register, 4);
-    let before = calendar::first_live(calendar, register::word(register, 2));
+    let rows = base::word(register, 4);
+    let before = calendar::first_live(calendar, base::word(register, 2));
     let first = calendar::first_live(calendar, day);
     let months = calendar::live_months(first);
     let held = ladders::spans::held_spans(calendar::live_months(before), spans, months);

@@ -144,7 +144,7 @@ pub fn columns(
     let mut place: u32 = 0;
     while place < 6 {
         let month = lookup::lookup_live_month(first, place);
-        let rows = register::rows(calendar, register, month);
+        let rows = rows::rows(calendar, register, month);
         at = column(
             out,
             at,

@@ -31,7 +31,7 @@ pub fn scale_of(calendar: &[u8], register: &[u8], first: u32) -> Scale {
     let mut place: u32 = 0;
     while place < 6 {
         let month = lookup::lookup_live_month(first, place);
-        scale = widened(scale, register::rows(calendar, register, month));
+        scale = widened(scale, rows::rows(calendar, register, month));
         place += 1;
     }
     scale

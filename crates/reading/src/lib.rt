@@ -1,8 +1,8 @@
 // What stands in a register's bytes: total questions over any bytes, answered by 0 or by lookup::OUTSIDE where the bytes do
 // not have it.
-use register::MOST_ROWS;
-use register::PLACES;
-use register::ROWS;
+use layout::MOST_ROWS;
+use layout::PLACES;
+use layout::ROWS;
 
 // How many bytes a row takes, and a waiting announcement.
 const ROW_LENGTH: usize = 8;
@@ -23,7 +23,7 @@ pub struct Announcement {
 
 // Causes 11 to 15 and 17 of any call on the register; 0 where it runs and is well formed.
 pub fn cause(calendar: &[u8], register: &[u8]) -> u32 {
-    register::rows_number(calendar, register, first_live(calendar, register)) as u32
+    rows::rows_number(calendar, register, first_live(calendar, register)) as u32
 }
 
 // The day of the last start or session.

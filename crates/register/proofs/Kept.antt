@@ -1,30 +1,21 @@
 -- The layout, as a scan of the bytes finds it, is that the bytes are what is written of what is read.
 -- Assumes nothing.
 use mathlib.Core.Path.{_≡_, refl, sym, ap, _∙_, subst}
-use mathlib.Core.Bool.{true, false, _&&_, false≢true}
+use mathlib.Core.Bool.{true, false, false≢true}
 use mathlib.Core.List.{List, [], _∷_, _++_, append-assoc}
-use Prim.Native.Nat.{ℕ, zero, suc, _+_, _-_, _*_, _/_, _%_, _≤_, _<_, max}
+use Prim.Native.Nat.{ℕ, zero, suc, _+_, _-_, _*_, _/_, _%_, _≤_, _<_}
 use native.Mathlib.Nat.{add-zero}
 use native.Mathlib.Omega.{arith}
-use lib.Dec.{eqb}
 use lib.ListN.{length, getD, take, drop, replicate, length-append, length-take, length-drop, length-replicate, take-append-drop}
 use lib.Seq.{take-all, take-at, drop-at, drop-drop, drop-cons, getD-drop}
-use borrow.Author.Tests.{eqb-true, eqb-false, ne-eqb}
-use Rattle.base.proofs.Tests.{byBool, and-l, and-r}
-use Rattle.register.specs.Rows.{Row}
-use Rattle.register.specs.Register.{Body}
-use Rattle.register.specs.Bytes.{two, placesBytes, rowsBytes, padded, bodyBytes, at16, readPlaces, readRows, bodyOf, allZero, sameBytes}
-use Rattle.register.specs.Scan.{Tells, Keeps, placesAt}
-use Rattle.register.proofs.ByteLaws.{places-length, rows-length, padded-length, zeros-zero}
-use Rattle.register.proofs.Steps.{at16-drop, places-none, places-some}
-
--- ---- zeros: the greatest of the bytes passed tells of them all
-pub zero-step : (g b : ℕ) (bs : List ℕ) → (eqb g 0 && allZero (b ∷ bs)) ≡ (eqb (max b g) 0 && allZero bs)
-unfolding allZero
-zero-step g b bs =
-    byBool (eqb g 0)
-    (λ e. let z = eqb-true g 0 e in let m : max b g ≡ b = omega arith in rw (e, m))
-    (λ e. let n = eqb-false g 0 e in rw (e, ne-eqb (max b g) 0 (λ q. n (omega arith))))
+use Rattle.layout.specs.Rows.{Row}
+use Rattle.layout.specs.Register.{Body}
+use Rattle.base.specs.Words.{two, at16}
+use Rattle.layout.specs.Bytes.{placesBytes, rowsBytes, padded, bodyBytes, readRows, bodyOf, allZero}
+use Rattle.register.specs.Check.{Tells, Keeps}
+use Rattle.layout.specs.Spans.{placesAt}
+use Rattle.layout.proofs.ByteLaws.{places-length, rows-length, padded-length, zeros-zero, places-none, places-some, places-count, rows-count, zeros-are}
+use Rattle.base.proofs.WordLaws.{at16-drop, two-append}
 
 pub tells-not : {P : Type 0} → (P → ⊥) → Tells false P
 tells-not never = record { if-true = λ e. absurd (false≢true e); if-holds = λ p. absurd (never p) }
@@ -33,38 +24,10 @@ tells-not never = record { if-true = λ e. absurd (false≢true e); if-holds = �
 pub rest-all : (bs : List ℕ) (at : ℕ) → take (length bs - at) (drop at bs) ≡ drop at bs
 rest-all bs at = take-all (length bs - at) (drop at bs) (omega (arith, length-drop at bs))
 
-pub zeros-are : (xs : List ℕ) (n : ℕ) → length xs ≡ n → allZero xs ≡ true → xs ≡ replicate n 0
-unfolding allZero
-zeros-are [] n l h = rw (← l)
-zeros-are (x ∷ xs) n l h =
-    rw (← l, eqb-true x 0 (and-l _ _ h)) (ap (λ (ys : List ℕ). 0 ∷ ys) (zeros-are xs (length xs) refl (and-r (eqb x 0) _ h)))
-
-pub same-eq : (xs ys : List ℕ) → sameBytes xs ys ≡ true → xs ≡ ys
-unfolding sameBytes
-same-eq [] [] h = refl
-same-eq [] (y ∷ ys) h = absurd (false≢true h)
-same-eq (x ∷ xs) [] h = absurd (false≢true h)
-same-eq (x ∷ xs) (y ∷ ys) h = rw (eqb-true x y (and-l _ _ h), same-eq xs ys (and-r (eqb x y) _ h))
-
 -- the last byte of each of n rows is zero
 abbrev pub EndsZero : ℕ → List ℕ → Type 0
 EndsZero zero xs = Unit {0}
 EndsZero (suc n) xs = (getD xs 7 0 ≡ 0) × EndsZero n (drop 8 xs)
-
--- ---- how much is read
-pub places-count : (w : ℕ) (xs : List ℕ) → length (readPlaces w xs) ≡ w
-unfolding readPlaces
-places-count zero xs = refl
-places-count (suc w) xs = ap suc (places-count w (drop 4 xs))
-
-pub rows-count : (n : ℕ) (xs : List ℕ) → length (readRows n xs) ≡ n
-unfolding readRows
-rows-count zero xs = refl
-rows-count (suc n) xs = ap suc (rows-count n (drop 8 xs))
-
-two-append : (n : ℕ) (xs ys : List ℕ) → two n xs ++ ys ≡ two n (xs ++ ys)
-unfolding two
-two-append n xs ys = refl
 
 -- ---- from the scan to the layout: what is read, written before the bytes behind it, is the bytes that it was read of
 module _ (bs : List ℕ) (bytes : (i : ℕ) → getD bs i 0 < 256) where

@@ -1,11 +1,4 @@
-pub mod RowLaws
-pub mod ByteLaws
-pub mod Held
-pub mod Steps
 pub mod Kept
-pub mod Runs
-pub mod Found
 pub mod Well
 pub mod Waiting
 pub mod Opens
-pub mod MonthRows

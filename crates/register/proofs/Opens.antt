@@ -13,12 +13,11 @@ use Rattle.base.proofs.Tests.{byBool, and-l}
 use Rattle.base.proofs.CauseLaws.{none-of, not-cause, decides, goes-on, alone, caused, passed}
 use Rattle.calendar.specs.Calendar.{calendarCause, checkOf, Passes}
 use Rattle.rules.specs.Rulebook.{rules}
-use Rattle.register.specs.Bytes.{registerLength, bytesOf, allZero, regOf, inLayout}
-use Rattle.register.specs.Opening.{emptyOrWell, stands, opened}
-use Rattle.register.specs.Spans.{runsWell}
-use Rattle.register.specs.Scan.{openingCause, openingOf}
-use Rattle.register.proofs.ByteLaws.{same-self}
-use Rattle.register.proofs.Kept.{zeros-are}
+use Rattle.layout.specs.Bytes.{registerLength, bytesOf, allZero, regOf, inLayout}
+use Rattle.layout.specs.Opening.{emptyOrWell, stands, opened}
+use Rattle.layout.specs.Spans.{runsWell}
+use Rattle.register.specs.Check.{openingCause, openingOf}
+use Rattle.layout.proofs.ByteLaws.{same-self, zeros-are}
 use Rattle.register.proofs.Well.{runs, run-keeps}
 
 pub zero-status : (bs : List ℕ) → allZero bs ≡ true → getD bs 0 0 ≡ 0

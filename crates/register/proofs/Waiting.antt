@@ -1,7 +1,7 @@
 -- The waiting announcements: places read one by one, live months and their spans, and an announcement's causes tried downwards.
 -- Assumes nothing.
 use mathlib.Core.Path.{_≡_, refl, _∙_}
-use mathlib.Core.Bool.{true, false, cond, _||_}
+use mathlib.Core.Bool.{true, false, _||_}
 use mathlib.Core.List.{List, [], _∷_, _++_}
 use Prim.Native.Nat.{ℕ, zero, suc, _+_, _-_, _*_, _≤_, _<_}
 use native.Mathlib.Nat.{le-of-suc-le-suc}
@@ -14,30 +14,17 @@ use borrow.Author.Tests.{eqb-true, eq-eqb, ne-eqb, lt-ltb, le-ltb}
 use Rattle.base.specs.Lists.{elem}
 use Rattle.base.specs.Causes.{cause, firstOf}
 use Rattle.base.proofs.Tests.{byBool, byLe}
-use Rattle.base.proofs.SearchLaws.{first-high}
-use Rattle.dates.specs.Months.{monthCount, dayCount}
 use Rattle.calendar.specs.Calendar.{nextSession}
-use Rattle.calendar.specs.Live.{unexpired, firstLive, liveMonths}
-use Rattle.calendar.proofs.LiveLaws.{live-day}
+use Rattle.calendar.specs.Live.{firstLive, liveMonths}
 use Rattle.rules.specs.Rules.{Rules, lastFirstMonth}
 use Rattle.rules.specs.Rulebook.{rules, firstAt, tierAt}
-use Rattle.register.specs.Register.{Body, waitingOf, spanLow, spanHigh, announceCauses, waitingOk}
-use Rattle.register.specs.Bytes.{at16}
-use Rattle.register.specs.Spans.{spansOf}
-use Rattle.register.specs.Scan.{placesAt, placeOf, spanIn, causesAt}
-use Rattle.register.proofs.Steps.{start-of, next-of, places-none, places-some}
-
--- ---- live months
--- past the calendar's last day no month is live
-pub live-top : (cal : List ℕ) (d : ℕ) → firstLive cal d ≤ monthCount
-unfolding firstLive
-live-top cal d = first-high (unexpired cal d) 0 monthCount (omega arith)
-
-pub live-past : (cal : List ℕ) (d : ℕ) → dayCount ≤ d → firstLive cal d ≡ monthCount
-live-past cal d h =
-    byLe monthCount (firstLive cal d)
-    (λ g. omega (arith, live-top cal d))
-    (λ g. absurd (omega (arith, live-day cal d g)))
+use Rattle.layout.specs.Register.{Body, waitingOf, announceCauses, waitingOk}
+use Rattle.base.specs.Words.{at16}
+use Rattle.layout.specs.Spans.{spansOf, placesAt, spanIn}
+use Rattle.register.specs.Check.{placeOf, causesAt}
+use Rattle.base.proofs.Loops.{start-of, next-of}
+use Rattle.layout.proofs.ByteLaws.{places-none, places-some}
+use Rattle.layout.proofs.SpanLaws.{span-in}
 
 -- where a month stands among some, from the i-th on
 module _ (m : ℕ) (ms : List ℕ) (i : ℕ) where
@@ -115,14 +102,6 @@ span-place m (n ∷ ns) (s ∷ ss) h k =
     byBool (eqb m n)
     (λ e. rw e)
     (λ e. rw e (span-place m ns ss (le-of-suc-le-suc (rw e at h)) (le-of-suc-le-suc (rw e at k))))
-
-pub span-in : (b : Body) (m : ℕ) (ms : List ℕ) → spanIn ms (spansOf b ms) m ≡ cond (elem m ms) (spanLow b m ∷ spanHigh b m ∷ []) (0 ∷ 0 ∷ [])
-unfolding spanIn spansOf elem
-span-in b m [] = refl
-span-in b m (n ∷ ns) =
-    byBool (eqb m n)
-    (λ e. rw (e, eqb-true m n e))
-    (λ e. rw e (span-in b m ns))
 
 -- ---- the causes by numbers are the causes on the register
 module _ (cal : List ℕ) (b : Body) (others : List (ℕ × ℕ)) (m p : ℕ) where

@@ -1,37 +1,39 @@
 -- A register stands where the scan of its bytes says so, and its spans are those that the scan finds.
 -- Assumes nothing.
 use mathlib.Core.Path.{_≡_, refl, sym, ap, _∙_}
-use mathlib.Core.Bool.{true, false, not, _&&_, false≢true}
+use mathlib.Core.Bool.{true, false, not, _&&_}
 use mathlib.Core.List.{List, [], _∷_, _++_}
 use mathlib.Core.Logic.{⊎-elim}
 use Prim.Native.Nat.{ℕ, zero, suc, _+_, _-_, _*_, _≤_, _<_}
 use native.Mathlib.Nat.{add-zero}
 use native.Mathlib.Omega.{arith}
-use lib.Dec.{leb, ltb}
+use lib.Dec.{leb}
 use lib.ListN.{length, getD, drop, replicate}
 use lib.Seq.{drop-drop, getD-drop}
-use borrow.Author.Tests.{lt-ltb, le-leb, leb-true, not-true}
+use borrow.Author.Tests.{le-leb, leb-true, not-true}
 use Rattle.base.specs.Lists.{elem, select, within, least, greatest}
 use Rattle.base.proofs.Tests.{byBool, and-l, and-r, and-i}
-use Rattle.base.proofs.ListLaws.{elem-here, elem-there, within-r}
+use Rattle.base.proofs.ListLaws.{elem-here, within-r}
 use Rattle.calendar.specs.Calendar.{session}
 use Rattle.calendar.specs.Live.{firstLive, liveMonths, tierOf}
 use Rattle.grid.specs.Grid.{gridOf}
 use Rattle.grid.proofs.Prices.{price-line}
 use Rattle.rules.specs.Rules.{lastFirstMonth}
 use Rattle.rules.specs.Rulebook.{rules, firstAt, tierAt}
-use Rattle.register.specs.Rows.{newEntry, Row, row, rowsOf, pricesOf, entryOk}
-use Rattle.register.specs.Register.{mostWaiting, Body, running, spanLow, spanHigh, sameKeys, nonEmpty, entriesOk, listed, waitingOk, wellFormed}
-use Rattle.register.specs.Bytes.{at16, readRows, bodyOf, rowsBytes, bodyBytes, bytesOf, allZero, sameBytes, regOf, inLayout}
-use Rattle.register.specs.Opening.{emptyOrWell, stands}
-use Rattle.register.specs.Spans.{noSpans, runsWell, spansOf, standingSpans}
-use Rattle.register.specs.Scan.{Keeps, rowAt, rowsAt, ladderSpans}
-use Rattle.register.proofs.RowLaws.{rowsOf-same}
-use Rattle.register.proofs.ByteLaws.{same-self}
-use Rattle.register.proofs.Held.{ladderOf, Held, there, least-held, greatest-held, Facts, facts, live-apart, held}
-use Rattle.register.proofs.Steps.{at16-drop}
-use Rattle.register.proofs.Kept.{EndsZero, same-eq, layout-is, kept, places-count, rows-part}
-use Rattle.register.proofs.Found.{blank, Found, find-ladders, held-found, spans-held}
+use Rattle.layout.specs.Rows.{newEntry, Row, row, rowsOf, pricesOf, entryOk}
+use Rattle.layout.specs.Register.{mostWaiting, Body, running, spanLow, spanHigh, sameKeys, nonEmpty, entriesOk, listed, waitingOk, wellFormed}
+use Rattle.base.specs.Words.{at16}
+use Rattle.layout.specs.Bytes.{readRows, bodyOf, rowsBytes, bodyBytes, bytesOf, allZero, sameBytes, regOf, inLayout}
+use Rattle.layout.specs.Opening.{emptyOrWell, stands}
+use Rattle.layout.specs.Spans.{noSpans, runsWell, spansOf, standingSpans}
+use Rattle.register.specs.Check.{Keeps}
+use Rattle.scan.specs.Scan.{rowAt, rowsAt, ladderSpans}
+use Rattle.layout.proofs.RowLaws.{rowsOf-same, all-some}
+use Rattle.layout.proofs.ByteLaws.{same-self, same-eq, places-count}
+use Rattle.layout.proofs.Held.{ladderOf, Held, there, least-held, greatest-held, Facts, facts, live-apart, held}
+use Rattle.base.proofs.WordLaws.{at16-drop}
+use Rattle.register.proofs.Kept.{EndsZero, layout-is, kept, rows-part}
+use Rattle.scan.proofs.Found.{blank, Found, find-ladders, held-found, spans-held}
 
 -- ---- the rows as they are scanned are the rows, where the byte behind each origin is zero
 module _ (bs : List ℕ) where
@@ -133,16 +135,6 @@ unfolding spansOf liveMonths spanLow
 first-low f b h z =
     let e : elem f (liveMonths f) ≡ true = elem-here f _ in
     omega (arith, least-held f (b .rows) h f e, h .low-on f e .from, price-line (h .low f))
-
-some-in : (p : ℕ) (xs : List ℕ) → elem p xs ≡ true → ltb 0 (length xs) ≡ true
-unfolding elem
-some-in p [] e = absurd (false≢true e)
-some-in p (y ∷ ys) e = lt-ltb 0 (suc (length ys)) (omega arith)
-
-pub all-some : (b : Body) (ms : List ℕ) → ((m : ℕ) → elem m ms ≡ true → elem (spanLow b m) (pricesOf m (b .rows)) ≡ true) → nonEmpty b ms ≡ true
-unfolding nonEmpty
-all-some b [] h = refl
-all-some b (m ∷ ms) h = and-i (some-in (spanLow b m) (pricesOf m (b .rows)) (h m (elem-here m ms))) (all-some b ms (λ n e. h n (elem-there n m ms e)))
 
 -- ---- and where a scan finds six spans, the first of which has a price
 pub record Scanned (cal bs : List ℕ) (spans : List (List ℕ)) : Type 0 where

@@ -1,6 +1,1 @@
-pub mod Rows
-pub mod Register
-pub mod Bytes
-pub mod Opening
-pub mod Spans
-pub mod Scan
+pub mod Check

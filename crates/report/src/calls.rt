@@ -35,7 +35,7 @@ fn removed(calendar: &[u8], before: &[u8], after: &[u8], month: u32) -> u32 {
     if month == reading::first_live(calendar, after) {
         return 0;
     }
-    reading::size(register::rows(calendar, before, month))
+    reading::size(rows::rows(calendar, before, month))
 }
 
 fn totals(

@@ -11,7 +11,7 @@ pub struct Ladder {
 }
 
 pub fn ladder_of(calendar: &[u8], register: &[u8], month: u32) -> Ladder {
-    let rows = register::rows(calendar, register, month);
+    let rows = rows::rows(calendar, register, month);
     Ladder {
         tier: reading::tier(calendar, register, month),
         low: reading::lowest(rows),

@@ -22,12 +22,7 @@ pub fn rows(out: &mut [u8], at: usize, calendar: &[u8], register: &[u8], month: 
         b" from %4 to %4\nprice  first day   call         put          origin\n",
         [ladder.low, ladder.high, 0, 0, 0, 0],
     );
-    lines(
-        out,
-        at,
-        register::rows(calendar, register, month),
-        ladder.rows,
-    )
+    lines(out, at, rows::rows(calendar, register, month), ladder.rows)
 }
 
 // The first n rows.

@@ -1,7 +1,4 @@
-// The rules by which engine and history are judged are definitions (specs/). Of code there are the kinds of calls, as a journal
-// has them.
-pub const START: u8 = 0;
+// The rules by which engine and history are judged are definitions (specs/).
 
-pub const SESSION: u8 = 1;
-
-pub const ANNOUNCE: u8 = 2;
+// The last month that may be the first live one: March 2099.
+pub const LAST_FIRST_MONTH: u16 = 1190;

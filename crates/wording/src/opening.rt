@@ -2,7 +2,7 @@
 use crate::forms::tell;
 use calendar::CALENDAR_LENGTH;
 use dates::DAYS;
-use register::REGISTER_LENGTH;
+use layout::REGISTER_LENGTH;
 
 // The longest that is told as it is.
 const LONGEST: usize = 4294967295;

@@ -4,7 +4,7 @@ use dates::DAYS;
 use dates::MONTHS;
 use grid::HIGHEST_CLOSE;
 use grid::LOWEST_CLOSE;
-use register::LAST_FIRST_MONTH;
+use rules::LAST_FIRST_MONTH;
 
 const LAST_DAY: u32 = DAYS as u32 - 1;
 

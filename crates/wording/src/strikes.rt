@@ -1,8 +1,8 @@
 // Causes 22 to 26: the month and the price of an announcement, and the month of the rows call.
 use crate::forms::tell;
 use crate::parts;
+use layout::MOST_WAITING;
 use phrases::fill;
-use register::MOST_WAITING;
 use text::put;
 
 // 22 and 26. Of the live months only the first can expire on the register's day.
@@ -149,7 +149,7 @@ pub fn refusal(
         22 | 26 => month_refused(out, at, calendar, register, number, stands, month),
         23 => off_grid(out, at, calendar, next, month, price),
         _ => {
-            let rows = register::rows(calendar, register, month);
+            let rows = rows::rows(calendar, register, month);
             price_refused(out, at, rows, number, next, month, price)
         }
     }

@@ -8,8 +8,8 @@ use lib.Dec.{eqb}
 use borrow.Author.Tests.{eqb-true}
 use Rattle.base.specs.Lists.{elem, select}
 use Rattle.base.proofs.Tests.{byBool, or-fl, or-fr}
-use Rattle.register.specs.Rows.{Entry, Row, row, ladder, rowsOf, pricesOf}
-use Rattle.register.proofs.Held.{Apart}
+use Rattle.layout.specs.Rows.{Entry, Row, row, ladder, rowsOf, pricesOf}
+use Rattle.layout.proofs.Held.{Apart}
 use Rattle.worked.specs.Worked.{ofOrigin}
 
 module _ (m : ℕ) where

@@ -9,12 +9,12 @@ use Rattle.base.specs.Causes.{cause, firstOf}
 use Rattle.base.proofs.CauseLaws.{none-of, goes-on, alone, caused}
 use Rattle.grid.specs.Grid.{closeTaken}
 use Rattle.rules.specs.Rules.{Rules}
-use Rattle.rules.specs.Calls.{start, session}
-use Rattle.register.specs.Register.{Reg, empty, running}
-use Rattle.register.specs.Bytes.{regOf}
-use Rattle.register.specs.Opening.{opened}
-use Rattle.listing.specs.Listing.{number}
-use Rattle.listing.specs.Calls.{numberAt}
+use Rattle.calls.specs.Calls.{start, session}
+use Rattle.layout.specs.Register.{Reg, empty, running}
+use Rattle.layout.specs.Bytes.{regOf}
+use Rattle.layout.specs.Opening.{opened}
+use Rattle.calls.specs.Listing.{number}
+use Rattle.calls.specs.Answers.{numberAt}
 
 -- the last of three causes, where neither of the two before it holds
 last : (a b c d : ℕ) → closeTaken c ≡ false → firstOf (a ∷ b ∷ d ∷ []) ≡ 0 → firstOf (a ∷ b ∷ cause (not (closeTaken c)) 21 ∷ []) ≡ 21

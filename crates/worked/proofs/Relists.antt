@@ -13,13 +13,13 @@ use Rattle.calendar.specs.Live.{firstLive, liveMonths}
 use Rattle.grid.specs.Grid.{gridOf, requiredLow, requiredHigh}
 use Rattle.rules.specs.Rules.{Rules, Moment}
 use Rattle.rules.specs.Rulebook.{firstAt, tierAt, rules}
-use Rattle.rules.specs.Calls.{start, announce}
-use Rattle.register.specs.Rows.{newEntry, Row, find, pricesOf}
-use Rattle.register.specs.Register.{Body, empty, running, waitingOf, spanLow, spanHigh, listed}
-use Rattle.register.proofs.RowLaws.{find-rowsOf}
-use Rattle.register.proofs.Held.{live-apart}
-use Rattle.listing.specs.Listing.{kept, closeLow, closeHigh, newLow, newHigh, newOrigin, startBody, sessionBody, announceBody, accepted}
-use Rattle.listing.specs.Calls.{rowsHeld}
+use Rattle.calls.specs.Calls.{start, announce}
+use Rattle.layout.specs.Rows.{newEntry, Row, find, pricesOf}
+use Rattle.layout.specs.Register.{Body, empty, running, waitingOf, spanLow, spanHigh, listed}
+use Rattle.layout.proofs.RowLaws.{find-rowsOf}
+use Rattle.layout.proofs.Held.{live-apart}
+use Rattle.calls.specs.Listing.{kept, closeLow, closeHigh, newLow, newHigh, newOrigin, startBody, sessionBody, announceBody, accepted}
+use Rattle.calls.specs.Answers.{rowsHeld}
 use Rattle.worked.specs.Worked.{after, ofOrigin, Reach, Reaches, LiveAs, relists, Holds}
 use Rattle.worked.proofs.Months.{month-prices, origin-rows}
 use Rattle.worked.proofs.Starts.{startPrices, begun, start-prices}

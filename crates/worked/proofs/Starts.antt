@@ -13,14 +13,15 @@ use Rattle.calendar.specs.Live.{firstLive, liveMonths, tierOf}
 use Rattle.calendar.proofs.LiveLaws.{live-tiers}
 use Rattle.grid.specs.Grid.{gridOf, requiredLow, requiredHigh}
 use Rattle.rules.specs.Rulebook.{firstAt, tierAt, rules}
-use Rattle.rules.specs.Calls.{start}
-use Rattle.register.specs.Rows.{Entry, newEntry, Row, ladder, rowsOf, pricesOf}
-use Rattle.register.specs.Register.{Reg, empty, running, listed}
-use Rattle.register.specs.Bytes.{regOf}
-use Rattle.register.proofs.Held.{live-apart}
-use Rattle.listing.specs.Listing.{number, startBody, accepted}
-use Rattle.listing.specs.Calls.{rowsHeld, count, numberAt, added, listedAt}
-use Rattle.listing.proofs.Counting.{on, count-append, ladder-length}
+use Rattle.calls.specs.Calls.{start}
+use Rattle.layout.specs.Rows.{Entry, newEntry, Row, ladder, rowsOf, pricesOf}
+use Rattle.layout.specs.Register.{Reg, empty, running, listed}
+use Rattle.layout.specs.Bytes.{regOf}
+use Rattle.layout.proofs.Held.{live-apart}
+use Rattle.calls.specs.Listing.{number, startBody, accepted}
+use Rattle.calls.specs.Answers.{rowsHeld, count, numberAt, added, listedAt}
+use Rattle.calls.proofs.CountLaws.{on, count-append}
+use Rattle.layout.proofs.RowLaws.{ladder-length}
 use Rattle.worked.specs.Worked.{LiveAs, starts, Holds}
 use Rattle.worked.proofs.Refused.{own}
 use Rattle.worked.proofs.Months.{month-prices}

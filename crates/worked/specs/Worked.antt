@@ -16,11 +16,11 @@ use Rattle.grid.specs.Grid.{gridOf, nearest, requiredLow, requiredHigh}
 use Rattle.names.specs.Names.{nameOf}
 use Rattle.rules.specs.Rules.{Rules}
 use Rattle.rules.specs.Rulebook.{rules}
-use Rattle.rules.specs.Calls.{Call, start, session, announce}
-use Rattle.register.specs.Rows.{Row, pricesOf}
-use Rattle.register.specs.Register.{Reg, empty}
-use Rattle.listing.specs.Listing.{accepted}
-use Rattle.listing.specs.Calls.{rowsHeld, numberAt, listedAt}
+use Rattle.calls.specs.Calls.{Call, start, session, announce}
+use Rattle.layout.specs.Rows.{Row, pricesOf}
+use Rattle.layout.specs.Register.{Reg, empty}
+use Rattle.calls.specs.Listing.{accepted}
+use Rattle.calls.specs.Answers.{rowsHeld, numberAt, listedAt}
 
 -- the register after some accepted calls
 unfoldable pub after : Rules → List Call → Reg → Reg

@@ -4,7 +4,7 @@ use mathlib.Core.Path.{sym, ap, _∙_}
 use native.Mathlib.Omega.{arith}
 use borrow.Author.Needs.{needs}
 use Rattle.calendar.specs.declared.Checked.{Checked}
-use Rattle.register.specs.Scan.{openingOf}
+use Rattle.register.specs.Check.{openingOf}
 use Rattle.register.proofs.Well.{runs-i, standing-none, standing-some, all-stand}
 use Rattle.register.proofs.Opens.{opens}
 use Rattle.announcing.proofs.Says.{by-opening, by-15, by-own, fits, room, accepts}

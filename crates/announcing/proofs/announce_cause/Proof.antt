@@ -6,7 +6,7 @@ use borrow.Author.Needs.{needs}
 use Rattle.calendar.specs.Calendar.{nextSession}
 use Rattle.calendar.specs.Live.{firstLive}
 use Rattle.register.proofs.Well.{runs, run-first}
-use Rattle.register.proofs.Waiting.{live-top}
+use Rattle.calendar.proofs.LiveLaws.{live-top}
 use Rattle.announcing.proofs.Says.{day-in, few-wait, gathered, own-refusal, own-full, own-none}
 use Rattle.announcing.proofs.announce_cause.Statement.{statement}
 use Rattle.announcing.proofs.announce_cause.Tie as tie

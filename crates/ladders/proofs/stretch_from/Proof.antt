@@ -5,9 +5,8 @@ use Prim.Native.Nat.{_*_, _≤_}
 use native.Mathlib.Omega.{arith}
 use lib.ListN.{length}
 use borrow.Author.Needs.{needs}
-use Rattle.grid.specs.Numbers.{stride}
+use Rattle.grid.specs.Numbers.{stride, bandStep}
 use Rattle.grid.proofs.Grids.{stride-le}
-use Rattle.register.specs.Scan.{bandStep}
 use Rattle.ladders.specs.Writing.{rowsIn, nextPrice}
 use Rattle.ladders.proofs.Stretches.{old-there, old-alike, new-alike}
 use Rattle.ladders.proofs.stretch_from.Statement.{statement}

@@ -8,7 +8,7 @@ use lib.ListN.{length, drop, length-drop}
 use borrow.Author.Needs.{needs}
 use Rattle.grid.specs.Numbers.{price}
 use Rattle.ladders.specs.Writing.{Alike}
-use Rattle.ladders.proofs.Parts.{whole-part}
+use Rattle.base.proofs.Parts.{whole-part}
 use Rattle.ladders.proofs.Ladder.{Going, going, price-in, room-for, same, step-up, step-in, step-on, size-is, bytes-are, left-are}
 use Rattle.ladders.proofs.write_ladder.Statement.{statement}
 use Rattle.ladders.proofs.write_ladder.Tie as tie

@@ -5,10 +5,10 @@ use Prim.Native.Nat.{ℕ, _+_, _-_, _*_, _≤_}
 use native.Mathlib.Omega.{arith}
 use lib.ListN.{length, getD, drop, length-drop}
 use borrow.Author.Needs.{needs}
-use Rattle.register.specs.Bytes.{registerLength}
+use Rattle.layout.specs.Bytes.{registerLength}
 use Rattle.ladders.specs.declared.Plan.{Plan}
 use Rattle.ladders.specs.Writing.{rowsIn, pricesIn, leftBy, planAt}
-use Rattle.ladders.proofs.Parts.{whole-part}
+use Rattle.base.proofs.Parts.{whole-part}
 use Rattle.ladders.proofs.Ladders.{Inv, begin, at-in, room, turn, at-end, cleared}
 use Rattle.ladders.proofs.write_ladders.Statement.{statement}
 use Rattle.ladders.proofs.write_ladders.Tie as tie

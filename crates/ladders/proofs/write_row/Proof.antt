@@ -2,7 +2,7 @@
 -- Assumes nothing.
 use lib.ListN.{length-set}
 use lib.Seq.{sets-eq}
-use Rattle.register.specs.Bytes.{two}
+use Rattle.base.specs.Words.{two}
 use Rattle.ladders.specs.Writing.{rowBytes}
 use native.Mathlib.Omega.{arith}
 use borrow.Author.Needs.{needs}

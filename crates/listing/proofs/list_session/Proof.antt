@@ -8,8 +8,9 @@ use lib.ListN.{length, getD}
 use borrow.Author.Needs.{needs}
 use Rattle.dates.specs.Months.{monthCount}
 use Rattle.calendar.specs.Live.{firstLive, liveMonths}
-use Rattle.register.specs.Bytes.{registerLength, at16, bodyOf}
-use Rattle.register.specs.Spans.{spansOf}
+use Rattle.layout.specs.Bytes.{registerLength, bodyOf}
+use Rattle.base.specs.Words.{at16}
+use Rattle.layout.specs.Spans.{spansOf}
 use Rattle.register.proofs.Well.{Running, runs, all-stand, run-keeps, run-first}
 use Rattle.listing.proofs.Starts.{close-low, close-high, day-in}
 use Rattle.listing.proofs.Before.{old, day-was}

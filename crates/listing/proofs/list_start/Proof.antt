@@ -4,7 +4,7 @@ use mathlib.Core.Path.{_≡_}
 use native.Mathlib.Omega.{arith}
 use borrow.Author.Needs.{needs}
 use Rattle.calendar.specs.Live.{firstLive, liveMonths}
-use Rattle.register.specs.Bytes.{readRows}
+use Rattle.layout.specs.Bytes.{readRows}
 use Rattle.ladders.specs.Writing.{rowsIn}
 use Rattle.ladders.specs.Spans.{closeSpans}
 use Rattle.listing.proofs.Starts.{close-low, close-high, day-in, none, start-ready, start-done}

@@ -8,12 +8,13 @@ use native.Mathlib.Omega.{arith}
 use lib.ListN.{length}
 use borrow.Author.Needs.{needs}
 use Rattle.calendar.specs.Calendar.{Passes, nextSession}
-use Rattle.rules.specs.Calls as Call
-use Rattle.register.specs.Scan.{openingCause}
-use Rattle.register.specs.Bytes.{registerLength, at16, bodyOf, allZero}
-use Rattle.register.specs.Spans.{runsWell}
+use Rattle.calls.specs.Calls as Call
+use Rattle.register.specs.Check.{openingCause}
+use Rattle.layout.specs.Bytes.{registerLength, bodyOf, allZero}
+use Rattle.base.specs.Words.{at16}
+use Rattle.layout.specs.Spans.{runsWell}
 use Rattle.register.proofs.Well.{runs}
-use Rattle.listing.specs.Listing.{number}
+use Rattle.calls.specs.Listing.{number}
 use Rattle.listing.specs.Writing.{Taken}
 use Rattle.listing.proofs.Opens.{opens-with, opens-running, session-taken}
 use Rattle.listing.proofs.Starts.{day-in}

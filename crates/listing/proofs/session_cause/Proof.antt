@@ -2,7 +2,7 @@
 -- Assumes nothing.
 use mathlib.Core.Path.{sym, _∙_}
 use borrow.Author.Needs.{needs}
-use Rattle.register.specs.Bytes.{bodyOf}
+use Rattle.layout.specs.Bytes.{bodyOf}
 use Rattle.listing.proofs.Opens.{no-session, session-goes}
 use Rattle.listing.proofs.session_cause.Statement.{statement}
 use Rattle.listing.proofs.session_cause.Tie as tie

@@ -8,9 +8,9 @@ use native.Mathlib.Omega.{arith}
 use lib.ListN.{length}
 use borrow.Author.Needs.{needs}
 use Rattle.calendar.specs.Calendar.{Passes}
-use Rattle.rules.specs.Calls as Call
-use Rattle.register.specs.Scan.{openingCause}
-use Rattle.register.specs.Bytes.{registerLength, allZero}
+use Rattle.calls.specs.Calls as Call
+use Rattle.register.specs.Check.{openingCause}
+use Rattle.layout.specs.Bytes.{registerLength, allZero}
 use Rattle.listing.specs.Writing.{Taken}
 use Rattle.listing.proofs.Opens.{opens-with, opens-empty, opens-running, start-taken}
 use Rattle.listing.proofs.Starts.{day-in}

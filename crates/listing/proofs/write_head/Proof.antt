@@ -1,7 +1,7 @@
 -- `listing::write_head` meets its contract.
 -- Assumes nothing.
 use lib.ListN.{length-set}
-use Rattle.register.specs.Bytes.{two}
+use Rattle.base.specs.Words.{two}
 use Rattle.listing.proofs.Head.{head-is}
 use native.Mathlib.Omega.{arith}
 use borrow.Author.Needs.{needs}

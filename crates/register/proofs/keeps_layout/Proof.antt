@@ -7,7 +7,8 @@ use lib.ListN.{drop}
 use borrow.Author.Needs.{needs}
 use borrow.Author.Tests.{not-true, not-false}
 use Rattle.base.proofs.Tests.{clash}
-use Rattle.register.specs.Bytes.{at16, allZero}
+use Rattle.base.specs.Words.{at16}
+use Rattle.layout.specs.Bytes.{allZero}
 use Rattle.register.proofs.Kept.{tells-not, rest-all}
 use Rattle.register.proofs.keeps_layout.Statement.{statement}
 use Rattle.register.proofs.keeps_layout.Tie as tie

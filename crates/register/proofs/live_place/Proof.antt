@@ -5,8 +5,8 @@ use Prim.Native.Nat.{_+_, _-_, _≤_}
 use native.Mathlib.Omega.{arith}
 use lib.ListN.{drop, drop-of-length-le}
 use borrow.Author.Needs.{needs}
-use Rattle.register.specs.Scan.{placeOf}
-use Rattle.register.proofs.Steps.{six-months}
+use Rattle.register.specs.Check.{placeOf}
+use Rattle.scan.proofs.Steps.{six-months}
 use Rattle.register.proofs.Waiting.{place-here, place-next}
 use Rattle.register.proofs.live_place.Statement.{statement}
 use Rattle.register.proofs.live_place.Tie as tie

@@ -2,7 +2,7 @@
 -- Assumes nothing.
 use mathlib.Core.Path.{sym}
 use borrow.Author.Needs.{needs}
-use Rattle.register.proofs.Waiting.{live-past}
+use Rattle.calendar.proofs.LiveLaws.{live-past}
 use Rattle.register.proofs.next_first.Statement.{statement}
 use Rattle.register.proofs.next_first.Tie as tie
 

@@ -19,7 +19,8 @@ use Rattle.grid.proofs.GridLaws.{price-le}
 use Rattle.rules.specs.Rules.{lastFirstMonth}
 use Rattle.rules.specs.Rulebook.{rules, firstAt}
 use Rattle.rules.proofs.RulebookLaws.{laws}
-use Rattle.register.specs.Scan.{causesAt, spanIn}
+use Rattle.register.specs.Check.{causesAt}
+use Rattle.layout.specs.Spans.{spanIn}
 use Rattle.register.proofs.Waiting.{place-le, place-elem, span-place}
 use Rattle.register.proofs.refusal.Statement.{statement}
 use Rattle.register.proofs.refusal.Tie as tie

@@ -12,11 +12,13 @@ use Rattle.base.proofs.Tests.{clash}
 use Rattle.calendar.specs.Live.{firstLive, liveMonths}
 use Rattle.calendar.proofs.LiveLaws.{live-day}
 use Rattle.rules.specs.Rulebook.{rules}
-use Rattle.register.specs.Register.{waitingOk}
-use Rattle.register.specs.Bytes.{at16, bodyOf}
-use Rattle.register.specs.Spans.{standingSpans}
-use Rattle.register.specs.Scan.{Keeps, rowsAt, ladderSpans}
-use Rattle.register.proofs.Steps.{places-none}
+use Rattle.layout.specs.Register.{waitingOk}
+use Rattle.base.specs.Words.{at16}
+use Rattle.layout.specs.Bytes.{bodyOf}
+use Rattle.layout.specs.Spans.{standingSpans}
+use Rattle.register.specs.Check.{Keeps}
+use Rattle.scan.specs.Scan.{rowsAt, ladderSpans}
+use Rattle.layout.proofs.ByteLaws.{places-none}
 use Rattle.register.proofs.Well.{run-keeps, run-session, run-first, run-held, run-spans, first-low, Scanned, spans-are, stands-if, none-stand, all-stand}
 use Rattle.register.proofs.standing.Statement.{statement}
 use Rattle.register.proofs.standing.Tie as tie

@@ -8,10 +8,12 @@ use lib.ListN.{getD}
 use borrow.Author.Needs.{needs}
 use Rattle.calendar.specs.Calendar.{nextSession}
 use Rattle.rules.specs.Rulebook.{rules}
-use Rattle.register.specs.Register.{waitingOk}
-use Rattle.register.specs.Bytes.{at16, bodyOf}
-use Rattle.register.specs.Scan.{placesAt}
-use Rattle.register.proofs.Waiting.{live-top, causes-are, beside, waiting-start, waiting-end, waiting-stop, waiting-next}
+use Rattle.layout.specs.Register.{waitingOk}
+use Rattle.base.specs.Words.{at16}
+use Rattle.layout.specs.Bytes.{bodyOf}
+use Rattle.layout.specs.Spans.{placesAt}
+use Rattle.calendar.proofs.LiveLaws.{live-top}
+use Rattle.register.proofs.Waiting.{causes-are, beside, waiting-start, waiting-end, waiting-stop, waiting-next}
 use Rattle.register.proofs.waiting_stands.Statement.{statement}
 use Rattle.register.proofs.waiting_stands.Tie as tie
 

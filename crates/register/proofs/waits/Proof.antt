@@ -6,9 +6,9 @@ use Prim.Native.Nat.{_+_, _-_, _*_, _≤_}
 use native.Mathlib.Omega.{arith}
 use borrow.Author.Needs.{needs}
 use Rattle.base.specs.Lists.{elem}
-use Rattle.register.specs.Register.{waitingOf}
-use Rattle.register.specs.Scan.{placesAt}
-use Rattle.register.proofs.Steps.{start-of, next-of}
+use Rattle.layout.specs.Register.{waitingOf}
+use Rattle.layout.specs.Spans.{placesAt}
+use Rattle.base.proofs.Loops.{start-of, next-of}
 use Rattle.register.proofs.Waiting.{waits-end, waits-here, waits-next}
 use Rattle.register.proofs.waits.Statement.{statement}
 use Rattle.register.proofs.waits.Tie as tie

@@ -6,8 +6,8 @@ use mathlib.Core.List.{_++_}
 use Prim.Native.Nat.{_+_, _-_, _*_}
 use borrow.Author.Needs.{needs}
 use Rattle.base.specs.Lists.{elem}
-use Rattle.register.specs.Register.{waitingOf}
-use Rattle.register.specs.Scan.{placesAt}
+use Rattle.layout.specs.Register.{waitingOf}
+use Rattle.layout.specs.Spans.{placesAt}
 use Rattle.register.proofs.Waiting.{waits-append}
 use Rattle.register.proofs.waits_beside.Statement.{statement}
 use Rattle.register.proofs.waits_beside.Tie as tie

@@ -6,7 +6,7 @@ use Prim.Native.Nat.{ℕ, _-_, _≤_}
 use native.Mathlib.Omega.{arith}
 use lib.ListN.{length, getD, length-set}
 use borrow.Author.Needs.{needs}
-use Rattle.register.specs.Scan.{spanIn}
+use Rattle.layout.specs.Spans.{spanIn}
 use Rattle.ladders.specs.Spans.{heldSpans}
 use Rattle.ladders.proofs.SpanLaws.{Filled, filled-more, filled}
 use Rattle.ladders.proofs.spans.held_spans.Statement.{statement}

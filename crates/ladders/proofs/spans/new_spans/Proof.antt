@@ -6,7 +6,7 @@ use Prim.Native.Nat.{ℕ, _-_, _≤_}
 use native.Mathlib.Omega.{arith}
 use lib.ListN.{length, getD, drop, length-set}
 use borrow.Author.Needs.{needs}
-use Rattle.register.specs.Bytes.{readPlaces}
+use Rattle.layout.specs.Bytes.{readPlaces}
 use Rattle.ladders.specs.Spans.{newPair, newSpans}
 use Rattle.ladders.proofs.SpanLaws.{Filled, filled-more, filled}
 use Rattle.ladders.proofs.spans.new_spans.Statement.{statement}

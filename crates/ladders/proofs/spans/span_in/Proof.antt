@@ -6,7 +6,7 @@ use native.Mathlib.Omega.{arith}
 use lib.ListN.{length, drop}
 use borrow.Author.Needs.{needs}
 use borrow.Author.Tests.{eq-eqb, ne-eqb}
-use Rattle.register.specs.Scan.{spanIn}
+use Rattle.layout.specs.Spans.{spanIn}
 use Rattle.ladders.proofs.SpanLaws.{span-step, span-none}
 use Rattle.ladders.proofs.spans.span_in.Statement.{statement}
 use Rattle.ladders.proofs.spans.span_in.Tie as tie

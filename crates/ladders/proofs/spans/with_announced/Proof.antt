@@ -8,8 +8,8 @@ use native.Mathlib.Omega.{arith}
 use lib.ListN.{length, drop}
 use borrow.Author.Needs.{needs}
 use Rattle.base.specs.Lists.{leastOf, greatestOf}
-use Rattle.register.specs.Register.{waitingOf}
-use Rattle.register.specs.Bytes.{readPlaces}
+use Rattle.layout.specs.Register.{waitingOf}
+use Rattle.layout.specs.Bytes.{readPlaces}
 use Rattle.ladders.specs.Spans.{announcedPair}
 use Rattle.ladders.proofs.SpanLaws.{places-next, announced-next, announced-other}
 use Rattle.ladders.proofs.spans.with_announced.Statement.{statement}

@@ -1,0 +1,93 @@
+-- Document 01, "Calls" and "Causes and what they yield": start, session and announce on the register's bytes, for every calendar,
+-- register and argument.
+-- Assumes nothing.
+use mathlib.Core.Bool.{Bool, cond, not}
+use mathlib.Core.List.{List, [], _∷_}
+use Prim.Native.Nat.{ℕ, suc}
+use lib.Dec.{eqb}
+use lib.ListN.{length}
+use Rattle.base.specs.Lists.{elem}
+use Rattle.rules.specs.Rules.{Rules}
+use Rattle.calls.specs.Calls.{Call, start, session, announce}
+use Rattle.layout.specs.Rows.{Row}
+use Rattle.layout.specs.Register.{Reg, empty, running}
+use Rattle.layout.specs.Bytes.{regOf, bytesOf}
+use Rattle.layout.specs.Opening.{opened}
+use Rattle.calendar.specs.Calendar.{firstLacking}
+use Rattle.rules.specs.Rulebook.{rules}
+use Rattle.calls.specs.Listing.{number, accepted}
+use Rattle.calls.specs.declared.Listed.{Listed}
+use Rattle.calls.specs.declared.Announced.{Announced}
+use Rattle.calls.specs.declared.Answer.{Answer}
+
+-- the rows of a register, and how many of a list pass a test
+unfoldable pub rowsHeld : Reg → List Row
+rowsHeld empty = []
+rowsHeld (running b) = b .rows
+
+unfoldable pub count : (Row → Bool) → List Row → ℕ
+count f [] = 0
+count f (r ∷ rs) = cond (f r) (suc (count f rs)) (count f rs)
+
+module _ (R : Rules) where
+  -- the number that a call returns
+  unfoldable pub numberAt : Call → List ℕ → ℕ
+  numberAt k bs = opened R bs (number R k (regOf bs))
+
+  -- the register's bytes after a call: a refusal changes nothing
+  unfoldable pub afterAt : Call → List ℕ → List ℕ
+  afterAt k bs = cond (eqb (numberAt k bs) 0) (bytesOf (accepted R k (regOf bs))) bs
+
+-- ---- what an accepted call tells beside its number
+
+-- added: the rows whose first day is the new day
+unfoldable pub added : Reg → ℕ
+added empty = 0
+added (running b) = count (λ r. eqb (r .entry .first) (b .at .day)) (b .rows)
+
+-- removed: the old rows of the dropped month, which is live no longer
+unfoldable pub removed : Rules → Reg → Reg → ℕ
+removed R old empty = 0
+removed R old (running b) = count (λ r. not (elem (r .month) (R .live (b .at)))) (rowsHeld old)
+
+-- announcements waiting
+unfoldable pub waitingIn : Reg → ℕ
+waitingIn empty = 0
+waitingIn (running b) = length (b .waiting)
+
+-- ---- the answers, for every calendar: an accepted call's values, beside 13 the first month without its session, else zeros
+
+unfoldable pub listedAt : List ℕ → Call → List ℕ → Listed
+listedAt calendar k bs =
+    let R : Rules = rules calendar in
+    let n : ℕ = numberAt R k bs in
+    let old : Reg = regOf bs in
+    let new : Reg = accepted R k old in
+    record {
+      number = n;
+      added = cond (eqb n 0) (added new) (cond (eqb n 13) (firstLacking calendar) 0);
+      removed = cond (eqb n 0) (removed R old new) 0;
+      rows = cond (eqb n 0) (length (rowsHeld new)) 0;
+    }
+
+unfoldable pub announcedAt : List ℕ → Call → List ℕ → Announced
+announcedAt calendar k bs =
+    let R : Rules = rules calendar in
+    let n : ℕ = numberAt R k bs in
+    record {
+      number = n;
+      waiting = cond (eqb n 0) (waitingIn (accepted R k (regOf bs))) (cond (eqb n 13) (firstLacking calendar) 0);
+    }
+
+-- ---- what a call answers, whichever it is: its number and the values beside it
+
+abbrev pub ofListed : Listed → Answer
+ofListed l = record { number = l .number; first = l .added; second = l .removed; third = l .rows }
+
+abbrev pub ofAnnounced : Announced → Answer
+ofAnnounced a = record { number = a .number; first = a .waiting; second = 0; third = 0 }
+
+unfoldable pub answerAt : List ℕ → Call → List ℕ → Answer
+answerAt calendar (start d c) bs = ofListed (listedAt calendar (start d c) bs)
+answerAt calendar (session d c) bs = ofListed (listedAt calendar (session d c) bs)
+answerAt calendar (announce m p) bs = ofAnnounced (announcedAt calendar (announce m p) bs)

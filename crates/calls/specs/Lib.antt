@@ -1,0 +1,4 @@
+pub mod Calls
+pub mod Listing
+pub mod Answers
+pub mod RowsCall

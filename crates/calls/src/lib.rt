@@ -1,0 +1,42 @@
+// What calls are and what they answer. The definitions of specs/ say what each call returns and leaves; the code of the calls
+// stands in crates of its own.
+
+// The kinds of calls, as a journal has them.
+pub const START: u8 = 0;
+
+pub const SESSION: u8 = 1;
+
+pub const ANNOUNCE: u8 = 2;
+
+// What a start or a session answers: its number, and where that is 0 the rows added, the rows removed and the row count;
+// beside 13 the month in `added`.
+#[repr(C)]
+pub struct Listed {
+    pub number: u16,
+    pub added: u16,
+    pub removed: u16,
+    pub rows: u16,
+}
+
+// What an announcement answers: its number, and where that is 0 how many wait; beside 13 the month in `waiting`.
+#[repr(C)]
+pub struct Announced {
+    pub number: u16,
+    pub waiting: u16,
+}
+
+// The rows call's number, and where it is 0 the place of the month's rows in the register, in bytes; a refusal has zeros beside its number.
+#[repr(C)]
+pub struct Place {
+    pub number: u16,
+    pub at: u16,
+    pub size: u16,
+}
+
+// What a call answers: its number, and beside it added, removed and rows of a start or session, or how many announcements wait.
+pub struct Answer {
+    pub number: u16,
+    pub first: u16,
+    pub second: u16,
+    pub third: u16,
+}

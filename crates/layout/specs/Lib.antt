@@ -1,0 +1,5 @@
+pub mod Rows
+pub mod Register
+pub mod Bytes
+pub mod Opening
+pub mod Spans

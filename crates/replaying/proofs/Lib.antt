@@ -1,0 +1,2 @@
+pub mod JournalLaws
+pub mod Outcomes

@@ -1,0 +1,78 @@
+-- What each outcome of a replay leaves.
+-- Assumes nothing.
+use mathlib.Core.Path.{_≡_, refl}
+use mathlib.Core.Bool.{true, false}
+use mathlib.Core.List.{List}
+use Prim.Native.Nat.{ℕ}
+use native.Mathlib.Omega.{arith}
+use lib.Dec.{eqb}
+use lib.ListN.{length}
+use borrow.Author.Tests.{eqb-true}
+use Rattle.base.proofs.Tests.{and-l, and-r}
+use Rattle.rules.specs.Rulebook.{rules}
+use Rattle.layout.specs.Bytes.{registerLength, allZero}
+use Rattle.layout.proofs.ByteLaws.{zeros-are}
+use Rattle.history.specs.Claim.{emptyRegister, finalAt, numbersAt}
+use Rattle.replaying.specs.Journal.{journal, wellKept, isEmpty, outcomeOf, Left}
+use Rattle.replaying.specs.declared.Outcome.the-variants.{Done, NotEmpty, Malformed}
+use Rattle.history.proofs.Closing.{closing}
+
+empty-is : (bs : List ℕ) → isEmpty bs ≡ true → bs ≡ emptyRegister
+unfolding isEmpty
+empty-is bs e =
+    let l : length bs ≡ registerLength = eqb-true (length bs) registerLength (and-l (eqb (length bs) registerLength) (allZero bs) e) in
+    zeros-are bs registerLength l (and-r (eqb (length bs) registerLength) (allZero bs) e)
+
+pub record Lengths (kinds xs ys numbers : List ℕ) : Type 0 where
+  pub firsts : length xs ≡ length kinds
+  pub seconds : length ys ≡ length kinds
+  pub places : length numbers ≡ length kinds
+
+pub lengths : (kinds xs ys numbers : List ℕ) → wellKept kinds xs ys numbers ≡ true → Lengths kinds xs ys numbers
+unfolding wellKept
+lengths kinds xs ys numbers w =
+    let w₁ = and-r (eqb (length xs) (length kinds)) _ w in
+    let w₂ = and-r (eqb (length ys) (length kinds)) _ w₁ in
+    record {
+      firsts = eqb-true (length xs) (length kinds) (and-l (eqb (length xs) (length kinds)) _ w);
+      seconds = eqb-true (length ys) (length kinds) (and-l (eqb (length ys) (length kinds)) _ w₁);
+      places = eqb-true (length numbers) (length kinds) (and-l (eqb (length numbers) (length kinds)) _ w₂);
+    }
+
+not-empty-done : NotEmpty ≡ Done → ⊥
+not-empty-done e = let z : _≡_ {A = ℕ} 0 1 = cc in omega arith
+
+malformed-done : Malformed ≡ Done → ⊥
+malformed-done e = let z : _≡_ {A = ℕ} 0 1 = cc in omega arith
+
+module _ (calendar kinds xs ys register numbers : List ℕ) where
+  pub left-not-empty : isEmpty register ≡ false → Left calendar kinds xs ys register numbers register numbers NotEmpty
+  unfolding outcomeOf
+  left-not-empty e = record {
+    outcome-is = rw e;
+    done = λ d. absurd (not-empty-done d);
+    claim = λ d. absurd (not-empty-done d);
+    refused = λ n. (refl, refl);
+  }
+
+  module _ (e : isEmpty register ≡ true) where
+    pub left-malformed : wellKept kinds xs ys numbers ≡ false → Left calendar kinds xs ys register numbers register numbers Malformed
+    unfolding outcomeOf
+    left-malformed w = record {
+      outcome-is = rw (e, w);
+      done = λ d. absurd (malformed-done d);
+      claim = λ d. absurd (malformed-done d);
+      refused = λ n. (refl, refl);
+    }
+
+    pub left-done : (after numbersAfter : List ℕ) → wellKept kinds xs ys numbers ≡ true
+        → after ≡ finalAt (rules calendar) (journal kinds xs ys) register
+        → numbersAfter ≡ numbersAt (rules calendar) (journal kinds xs ys) register
+        → Left calendar kinds xs ys register numbers after numbersAfter Done
+    unfolding outcomeOf
+    left-done after numbersAfter w a n = record {
+      outcome-is = rw (e, w);
+      done = λ d. (a, n);
+      claim = λ d. rw (a, n, empty-is register e) (closing calendar (journal kinds xs ys));
+      refused = λ d. absurd (d refl);
+    }
