@@ -2,7 +2,8 @@
 """docs/RULES.md and docs/READING.md held against the definitions in crates/*/specs.
 
 docs/rules.py --check   each definition that RULES.md names stands in the file named beside it; RULES.md names every definition that
-                        the contract of an entry point of READING.md rests on; READING.md names every file of definitions.
+                        the contract of an entry point of READING.md rests on; READING.md names every file of definitions, and no
+                        document names one that is not there.
 docs/rules.py --write   puts the file of each definition that has moved right in RULES.md.
 """
 import glob
@@ -15,7 +16,9 @@ DEFINITION = re.compile(r"^\s*(?:unfoldable|abbrev) pub (\S+) :|^pub (?:record|d
 IMPORT = re.compile(r"^(?:ghost )?use Rattle·([a-z_]+)(?:·specs)?\.specs\.(\w+)(?:\.\{([^}]*)\}| as (\w+))")
 WORD = re.compile(r"[^\s(){}\[\],;`⌜⌝]+")
 CITED = re.compile(r"\[`([a-z_]+/specs/\w+\.antt)`: ((?:`[^`]+`(?:, )?)+)\]")
-FILE = re.compile(r"`([a-z_]+/specs/\w+\.antt)`")
+FILE = re.compile(r"`(?:crates/)?([a-z_]+/specs/\w+\.antt)`")
+# Documents that speak of what is so now; landing notes and decisions speak of their day.
+NOW = ["README.md", "CONTRIBUTING.md", "docs/READING.md", "docs/FORMAT.md", "docs/ARCHITECTURE.md"]
 
 FAULTS = []
 
@@ -118,8 +121,9 @@ def check():
     files = {path.removeprefix("crates/") for path in paths("crates/*/specs/*.antt") if not path.endswith("/Lib.antt")}
     for file in sorted(files - set(FILE.findall(reading))):
         fault(f"READING.md does not name {file}")
-    for file in sorted(set(FILE.findall(reading)) - files):
-        fault(f"READING.md: there is no {file}")
+    for document in NOW:
+        for file in sorted(set(FILE.findall(read(document))) - files):
+            fault(f"{document}: there is no {file}")
     for words in FAULTS:
         print(words)
     print(f"{len(cited)} definitions named by RULES.md, {len(wanted)} rested on by contracts, {len(FAULTS)} faults")
