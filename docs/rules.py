@@ -89,15 +89,24 @@ def contracts(reading, known):
     return cited
 
 
-def moved(rules, known):
-    """RULES.md with the file that each definition has now."""
+def rested_on(reading, rests):
+    """All definitions that the contracts of READING.md's entry points rest on."""
+    wanted, left = set(), contracts(reading, rests)
+    while left:
+        wanted |= left
+        left = {below for above in left for below in rests[above]} - wanted
+    return wanted
+
+
+def moved(rules, known, wanted):
+    """RULES.md with the file that each definition has now. Where two files define the name, that of the contracts is meant."""
     def bracket(match):
         file, names = match.group(1), re.findall(r"`([^`]+)`", match.group(2))
         groups = []
         for name in names:
             there = file
             if (file, name) not in known:
-                found = [f for f, n in known if n == name]
+                found = [f for f, n in wanted if n == name] or [f for f, n in known if n == name]
                 there = found[0] if len(found) == 1 else file
             if groups and groups[-1][0] == there:
                 groups[-1][1].append(name)
@@ -112,10 +121,7 @@ def check():
     cited = {(file, name) for file, names in CITED.findall(rules) for name in re.findall(r"`([^`]+)`", names)}
     for file, name in sorted(cited - rests.keys()):
         fault(f"RULES.md: {file} has no definition {name}")
-    wanted, left = set(), contracts(reading, rests)
-    while left:
-        wanted |= left
-        left = {below for above in left for below in rests[above]} - wanted
+    wanted = rested_on(reading, rests)
     for file, name in sorted(wanted - cited):
         fault(f"RULES.md names no rule for {file} {name}, which a contract rests on")
     files = {path.removeprefix("crates/") for path in paths("crates/*/specs/*.antt") if not path.endswith("/Lib.antt")}
@@ -133,7 +139,8 @@ def check():
 if sys.argv[1:] == ["--check"]:
     sys.exit(check())
 elif sys.argv[1:] == ["--write"]:
-    text = moved(read("docs/RULES.md"), definitions().keys())
+    known = definitions()
+    text = moved(read("docs/RULES.md"), known, rested_on(read("docs/READING.md"), known))
     with open(os.path.join(ROOT, "docs/RULES.md"), "w", encoding="utf-8") as file:
         file.write(text)
 else:
