@@ -13,7 +13,7 @@ import sys
 
 ROOT = os.path.dirname(os.path.dirname(os.path.abspath(__file__)))
 DEFINITION = re.compile(r"^\s*(?:unfoldable|abbrev) pub (\S+) :|^pub (?:record|data) (\S+)")
-IMPORT = re.compile(r"^(?:ghost )?use Rattle·([a-z_]+)(?:·specs)?\.specs\.(\w+)(?:\.\{([^}]*)\}| as (\w+))")
+IMPORT = re.compile(r"^(?:ghost |pub )?use Rattle·([a-z_]+)(?:·specs)?\.specs\.(\w+)(?:\.\{([^}]*)\}| as (\w+))")
 WORD = re.compile(r"[^\s(){}\[\],;`⌜⌝]+")
 CITED = re.compile(r"\[`([a-z_]+/specs/\w+\.antt)`: ((?:`[^`]+`(?:, )?)+)\]")
 FILE = re.compile(r"`(?:crates/)?([a-z_]+/specs/\w+\.antt)`")
@@ -48,6 +48,17 @@ def imports(text):
     return where
 
 
+def named(word, file, where, known):
+    """The definition that a word means in a file: its own, or an imported one, which may have been handed on."""
+    here = where.get(word, (file, word))
+    while here not in known and os.path.exists(os.path.join(ROOT, "crates", here[0])):
+        further = imports(read("crates/" + here[0])).get(here[1])
+        if further is None:
+            return None
+        here = further
+    return here if here in known else None
+
+
 def definitions():
     """Every definition by file and name, with the definitions that its text names."""
     texts = {}
@@ -63,8 +74,8 @@ def definitions():
     rests = {}
     for (file, name), lines in texts.items():
         where = imports(read("crates/" + file))
-        words = {where.get(word, (file, word)) for line in lines for word in WORD.findall(line.replace(" .", " "))}
-        rests[file, name] = {word for word in words if word in texts and word != (file, name)}
+        words = {word for line in lines for word in WORD.findall(line.replace(" .", " "))}
+        rests[file, name] = {named(word, file, where, texts) for word in words} - {None, (file, name)}
     return rests
 
 
@@ -83,10 +94,8 @@ def contracts(reading, known):
             continue
         text, head = heads[0]
         where = imports(text)
-        for word in WORD.findall(head):
-            if where.get(word) in known:
-                cited.add(where[word])
-    return cited
+        cited |= {named(word, "", where, known) for word in WORD.findall(head) if word in where}
+    return cited - {None}
 
 
 def rested_on(reading, rests):
