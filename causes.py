@@ -319,7 +319,10 @@ impl Display for Refusal {
     }
 }
 
-impl Error for Refusal {}""".splitlines()
+impl Error for Refusal {}
+
+#[cfg(test)]
+mod tests;""".splitlines()
     return "\n".join(lines) + "\n"
 
 

@@ -163,3 +163,6 @@ impl Display for Refusal {
 }
 
 impl Error for Refusal {}
+
+#[cfg(test)]
+mod tests;
