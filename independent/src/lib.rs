@@ -10,6 +10,9 @@ pub mod dates;
 pub mod grid;
 pub mod judge;
 pub mod names;
+// What the table of cases has to show. No answer depends on it.
+#[cfg(test)]
+mod numbers;
 pub mod register;
 pub mod warsaw;
 

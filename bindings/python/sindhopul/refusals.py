@@ -1,5 +1,7 @@
 """An exception for each cause of include/sindhopul.h, with the header's names."""
 
+# Made from causes.txt by causes.py.
+
 from typing import ClassVar, Dict, Type
 
 
@@ -11,6 +13,9 @@ class Refused(Exception):
 
     words: ClassVar[str]
     """The cause in words."""
+
+    # How many values are told beside the number.
+    _values: ClassVar[int] = 0
 
     def __str__(self) -> str:
         return f"refused ({self.number}): {self.words}"
@@ -29,6 +34,7 @@ class CalendarTailRefused(Refused):
 class CalendarMonthRefused(Refused):
     number = 13
     words = "a month has no session from its first day to its third Friday"
+    _values = 1
 
     def __init__(self, month: int) -> None:
         super().__init__(month)
@@ -121,6 +127,7 @@ class NameSeriesRefused(Refused):
 class NameByteRefused(Refused):
     number = 29
     words = "a byte of the name cannot stand at its place"
+    _values = 1
 
     def __init__(self, place: int) -> None:
         super().__init__(place)
@@ -134,19 +141,11 @@ class NameByteRefused(Refused):
         )
 
 
-_PLAIN: Dict[int, Type[Refused]] = {
-    cause.number: cause
-    for cause in Refused.__subclasses__()
-    if cause not in (CalendarMonthRefused, NameByteRefused)
-}
+_CAUSES: Dict[int, Type[Refused]] = {cause.number: cause for cause in Refused.__subclasses__()}
 
 
-def raise_unless_accepted(number: int, value: int = 0) -> None:
-    """Raises what a call's number tells, with the first value beside it."""
-    if number == 0:
-        return
-    if number == CalendarMonthRefused.number:
-        raise CalendarMonthRefused(value)
-    if number == NameByteRefused.number:
-        raise NameByteRefused(value)
-    raise _PLAIN[number]()
+def raise_unless_accepted(number: int, *values: int) -> None:
+    """Raises what a call's number tells, with the values beside it."""
+    if number != 0:
+        cause = _CAUSES[number]
+        raise cause(*values[: cause._values])

@@ -143,7 +143,7 @@ class Refusals(unittest.TestCase):
     def test_one_for_each_cause(self) -> None:
         causes = sindhopul.Refused.__subclasses__()
         header = re.findall(r"SINDHOPUL_CAUSE_(\w+) = (\d+)", HEADER.read_text())
-        self.assertEqual(len(header), 19)
+        self.assertIn(("SESSION_DAY", "19"), header)
         self.assertEqual(
             [(cause.__name__, cause.number) for cause in causes],
             [(name.title().replace("_", "") + "Refused", int(number)) for name, number in header],

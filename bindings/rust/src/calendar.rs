@@ -31,7 +31,7 @@ impl Calendar {
     /// ```
     pub fn new(bytes: &[u8]) -> Result<Self, Refusal> {
         let checked = raw::calendar_check(bytes);
-        Refusal::unless_accepted(checked.number, checked.month)?;
+        Refusal::unless_accepted(checked.number, &[checked.month.into()])?;
         let bytes = Box::<[u8]>::from(bytes).try_into();
         Ok(Self {
             bytes: bytes.expect("the check has looked at the length"),

@@ -1,26 +1,27 @@
+// Made from causes.txt by causes.py.
+
 use std::error::Error;
 use std::fmt::{self, Display, Formatter};
 
 /// Why a call was refused. Nothing was changed by it.
 ///
 /// The causes have the names of `include/sindhopul.h`, and their order is that of their numbers,
-/// from 11 to 29. Where several hold, the lowest is told, but that reading a name tells 29 before
-/// 28.
+/// from 11 to 29. Where several hold, the header says for each call which is told.
 #[derive(Debug, Clone, Copy, PartialEq, Eq, Hash)]
 #[non_exhaustive]
 pub enum Refusal {
-    /// 11: the calendar is not 4,566 bytes long.
+    /// 11: the calendar is not 4566 bytes long.
     CalendarLength,
-    /// 12: the calendar has a session after day 36,524.
+    /// 12: the calendar has a session after day 36524.
     CalendarTail,
-    /// 13: this month is the first without a session from its first day to its third Friday.
+    /// 13: a month has no session from its first day to its third Friday.
     CalendarMonth {
-        /// The month.
+        /// The first such month.
         month: u16,
     },
-    /// 14: the register is not 11,264 bytes long.
+    /// 14: the register is not 11264 bytes long.
     RegisterLength,
-    /// 15: the register is neither empty nor well formed under the calendar.
+    /// 15: the register is neither empty nor well formed.
     RegisterForm,
     /// 16: the register to start is running.
     Running,
@@ -32,7 +33,7 @@ pub enum Refusal {
     SessionDay,
     /// 20: the first live month would be after March 2099.
     TooLate,
-    /// 21: the close is below 9,000 or above 954,999.
+    /// 21: the close is below 9000 or above 954999.
     Close,
     /// 22: the month to announce is not live, or expires on the register's day.
     AnnounceMonth,
@@ -48,21 +49,23 @@ pub enum Refusal {
     NameLength,
     /// 28: there is no series of this month and price.
     NameSeries,
-    /// 29: the byte at this place of the name, the first such, cannot stand there.
+    /// 29: a byte of the name cannot stand at its place.
     NameByte {
-        /// The place, 0 to 10.
+        /// The first such place, 0 to 10.
         place: u16,
     },
 }
 
 impl Refusal {
-    /// What a call's number tells, with the first value beside it.
-    pub(crate) fn unless_accepted(number: u16, value: u16) -> Result<(), Self> {
+    /// What a call's number tells, with the values beside it.
+    pub(crate) fn unless_accepted(number: u16, values: &[u32]) -> Result<(), Self> {
         Err(match number {
             0 => return Ok(()),
             11 => Self::CalendarLength,
             12 => Self::CalendarTail,
-            13 => Self::CalendarMonth { month: value },
+            13 => Self::CalendarMonth {
+                month: values[0] as u16,
+            },
             14 => Self::RegisterLength,
             15 => Self::RegisterForm,
             16 => Self::Running,
@@ -78,7 +81,9 @@ impl Refusal {
             26 => Self::RowsMonth,
             27 => Self::NameLength,
             28 => Self::NameSeries,
-            29 => Self::NameByte { place: value },
+            29 => Self::NameByte {
+                place: values[0] as u16,
+            },
             _ => unreachable!("no call returns {number}"),
         })
     }
@@ -158,3 +163,6 @@ impl Display for Refusal {
 }
 
 impl Error for Refusal {}
+
+#[cfg(test)]
+mod tests;

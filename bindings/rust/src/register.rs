@@ -19,7 +19,7 @@ pub struct Listed {
 
 impl Listed {
     fn of(result: ListingResult) -> Result<Self, Refusal> {
-        Refusal::unless_accepted(result.number, result.added)?;
+        Refusal::unless_accepted(result.number, &[result.added.into()])?;
         Ok(Self {
             added: result.added,
             removed: result.removed,
@@ -121,7 +121,7 @@ impl Register {
     ) -> Result<u16, Refusal> {
         let calendar = calendar.as_bytes();
         let result = raw::announce(calendar, &mut *self.bytes, month, price);
-        Refusal::unless_accepted(result.number, result.waiting)?;
+        Refusal::unless_accepted(result.number, &[result.waiting.into()])?;
         Ok(result.waiting)
     }
 
@@ -133,8 +133,8 @@ impl Register {
     /// [`Refusal::RowsMonth`].
     pub fn rows(&self, calendar: &Calendar, month: u32) -> Result<Rows<'_>, Refusal> {
         let result = raw::rows(calendar.as_bytes(), &*self.bytes, month);
-        // Beside a refusal both values are 0; a Calendar is never refused.
-        Refusal::unless_accepted(result.number, 0)?;
+        // No value stands beside a refusal: 13, which has one, is never told of a Calendar.
+        Refusal::unless_accepted(result.number, &[])?;
         Ok(Rows::of(result.part(&*self.bytes)))
     }
 }

@@ -50,7 +50,7 @@ impl Series {
     /// [`Refusal::NameSeries`].
     pub fn read(name: &[u8]) -> Result<Self, Refusal> {
         let result = raw::name_read(name);
-        Refusal::unless_accepted(result.number, result.month)?;
+        Refusal::unless_accepted(result.number, &[result.month.into()])?;
         Ok(Self {
             month: result.month,
             option_type: match result.option_type {
@@ -71,7 +71,7 @@ impl Series {
         let mut name = [0; NAME_BYTES];
         let (month, option_type, price) = (self.month, self.option_type as u32, self.price);
         let number = raw::name_write(&mut name, month.into(), option_type, price.into());
-        Refusal::unless_accepted(number, 0)?;
+        Refusal::unless_accepted(number, &[])?;
         Ok(Name(name))
     }
 }

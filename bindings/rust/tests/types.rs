@@ -1,11 +1,6 @@
 //! What the types add to the calls of the C interface.
 
-use std::collections::HashSet;
-use std::error::Error;
-
 use sindhopul::{raw, Calendar, OptionType, Origin, Refusal, Register, Series};
-
-const HEADER: &str = include_str!("../../../include/sindhopul.h");
 
 /// Monday, 16 November 2026, and its month.
 const MONDAY: u16 = 9_816;
@@ -83,60 +78,6 @@ fn rows_come_from_either_end() {
     assert_eq!(rows.as_bytes().len(), 33 * 8);
     assert_eq!(rows.by_ref().count(), 29);
     assert_eq!(rows.next(), None);
-}
-
-/// The causes of the header: SESSION_DAY as SessionDay, with their numbers.
-fn causes_of_header() -> impl Iterator<Item = (String, u16)> {
-    HEADER.lines().filter_map(|line| {
-        let (name, number) = line
-            .trim()
-            .strip_prefix("SINDHOPUL_CAUSE_")?
-            .split_once(" = ")?;
-        let number = number
-            .trim_end_matches(',')
-            .parse()
-            .expect("a cause is a number");
-        let word = |word: &str| word[..1].to_string() + &word[1..].to_lowercase();
-        Some((name.split('_').map(word).collect(), number))
-    })
-}
-
-/// The header's names and numbers, and no two refusals alike.
-#[test]
-fn every_cause_can_be_told() {
-    let refusals = [
-        Refusal::CalendarLength,
-        Refusal::CalendarTail,
-        Refusal::CalendarMonth { month: 317 },
-        Refusal::RegisterLength,
-        Refusal::RegisterForm,
-        Refusal::Running,
-        Refusal::Empty,
-        Refusal::StartDay,
-        Refusal::SessionDay,
-        Refusal::TooLate,
-        Refusal::Close,
-        Refusal::AnnounceMonth,
-        Refusal::AnnouncePrice,
-        Refusal::AnnounceKnown,
-        Refusal::AnnounceFull,
-        Refusal::RowsMonth,
-        Refusal::NameLength,
-        Refusal::NameSeries,
-        Refusal::NameByte { place: 4 },
-    ];
-    let mut texts = HashSet::new();
-    assert_eq!(causes_of_header().count(), refusals.len());
-    for ((name, number), refusal) in causes_of_header().zip(refusals) {
-        assert_eq!(format!("{refusal:?}").split(' ').next(), Some(&*name));
-        assert_eq!(refusal.number(), number);
-        let error: &dyn Error = &refusal;
-        let text = error.to_string();
-        assert!(text.starts_with(&format!("refused ({number}): ")), "{text}");
-        assert!(texts.insert(text));
-    }
-    let month = Refusal::CalendarMonth { month: 317 }.to_string();
-    assert!(month.contains("month 317 (2026-06)"), "{month}");
 }
 
 #[test]

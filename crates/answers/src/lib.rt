@@ -35,7 +35,7 @@ fn check_bytes(calendar: &[u8]) -> i32 {
             &mut out,
             0,
             length,
-            checked.number as u32,
+            checked.number,
             checked.month as u32,
         );
         return say(STDERR_FILENO, &out, end, REFUSED);
@@ -121,7 +121,7 @@ fn draw(calendar: &[u8], register: &[u8]) -> i32 {
 
 fn refuse_name(number: u16, place: u16) -> i32 {
     let mut out = io::buffer();
-    let end = wording::name_refusal(&mut out, 0, number as u32, place as u32);
+    let end = wording::name_refusal(&mut out, 0, number, place as u32);
     say(STDERR_FILENO, &out, end, REFUSED)
 }
 

@@ -3,6 +3,7 @@ mod case;
 mod months;
 mod next;
 
+use base::causes;
 use case::Case;
 use phrases::fill;
 use reading::Row;
@@ -16,7 +17,7 @@ pub fn why(
     month: u32,
     price: u32,
 ) -> usize {
-    let number = rows::rows_number(calendar, register, month) as u32;
+    let number = rows::rows_number(calendar, register, month);
     if !is_answered(number) {
         let opens = register::opening(calendar, register);
         let value = opens.month as u32;
@@ -29,8 +30,8 @@ pub fn why(
 }
 
 // A month that is not live, cause 26 of the rows call, has an answer too.
-fn is_answered(number: u32) -> bool {
-    number == 0 || number == 26
+fn is_answered(number: u16) -> bool {
+    number == 0 || number == causes::ROWS_MONTH
 }
 
 // The names of call and put, or month and price where these have no name.

@@ -1,6 +1,7 @@
 // Writing a line of the journal. Every call whose numbers have at most nine digits reads back.
 use calls::ANNOUNCE;
 use calls::START;
+use base::causes;
 use dates::DAYS;
 use dates::MONTHS;
 use phrases::fill;
@@ -18,7 +19,7 @@ fn call_form(kind: u8, x: u32) -> u32 {
 
 // Which form the values beside a call's number have: those of an accepted call, and beside 13 the month; else none.
 fn values_form(kind: u8, number: u32, a: u32) -> u32 {
-    if number == 13 {
+    if number == causes::CALENDAR_MONTH as u32 {
         return if a < MONTHS as u32 { 1 } else { 2 };
     }
     if number != 0 {

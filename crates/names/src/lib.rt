@@ -1,5 +1,6 @@
 // Series names: the 11 bytes of a series, written and read.
 use base::Tier;
+use base::causes;
 ghost use mathlib.Core.Path.{_≡_};
 ghost use mathlib.Core.Bool.{true};
 ghost use mathlib.Core.List.{[], _∷_};
@@ -61,10 +62,10 @@ pub fn write(name: &mut [u8], month: u32, kind: u32, price: u32) -> u16
     ensures { λ _. ⌜ now (name .exit) ≡ written (now (name .entry)) month kind price ⌝ }
 {
     if name.len() != LENGTH as usize {
-        return 27;
+        return causes::NAME_LENGTH;
     }
     if no_series(month, kind, price) {
-        return 28;
+        return causes::NAME_SERIES;
     }
     put(name, month, kind, price);
     0
@@ -137,15 +138,15 @@ pub fn read(name: &[u8]) -> Series
     ensures { λ r. ⌜ r ≡ readOf (now (name .entry)) ⌝ }
 {
     if name.len() != LENGTH as usize {
-        return refused(27, 0);
+        return refused(causes::NAME_LENGTH, 0);
     }
     let place = first_misplaced(name);
     if place < LENGTH {
-        return refused(29, place);
+        return refused(causes::NAME_BYTE, place);
     }
     let series = told(name);
     if no_series(series.month as u32, series.kind as u32, series.price as u32) {
-        return refused(28, 0);
+        return refused(causes::NAME_SERIES, 0);
     }
     series
 }

@@ -22,8 +22,8 @@ pub struct Announcement {
 }
 
 // Causes 11 to 15 and 17 of any call on the register; 0 where it runs and is well formed.
-pub fn cause(calendar: &[u8], register: &[u8]) -> u32 {
-    rows::rows_number(calendar, register, first_live(calendar, register)) as u32
+pub fn cause(calendar: &[u8], register: &[u8]) -> u16 {
+    rows::rows_number(calendar, register, first_live(calendar, register))
 }
 
 // The day of the last start or session.

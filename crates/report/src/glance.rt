@@ -2,13 +2,14 @@
 use crate::parts::announcements;
 use crate::parts::columns;
 use crate::parts::ladder_of;
+use base::causes;
 use phrases::fill;
 
 // The whole register. One that is refused by a cause from 11 to 15 has nothing to show.
 pub fn show(out: &mut [u8], at: usize, calendar: &[u8], register: &[u8]) -> usize {
     match reading::cause(calendar, register) {
         0 => accepted(out, at, calendar, register),
-        17 => text::put(
+        causes::EMPTY => text::put(
             out,
             at,
             b"the register is empty: start it\n  sindhopul start CALENDAR REGISTER DAY CLOSE\n",

@@ -35,15 +35,6 @@ pub fn say(fd: i32, out: &[u8], end: usize, status: i32) -> i32 {
 // A refusal in words.
 pub fn refuse(calendar: &[u8], register: &[u8], number: u16, value: u16, x: u32, y: u32) -> i32 {
     let mut out = io::buffer();
-    let end = wording::refusal(
-        &mut out,
-        0,
-        calendar,
-        register,
-        number as u32,
-        value as u32,
-        x,
-        y,
-    );
+    let end = wording::refusal(&mut out, 0, calendar, register, number, value as u32, x, y);
     say(STDERR_FILENO, &out, end, REFUSED)
 }

@@ -6,13 +6,14 @@ mod series;
 mod sessions;
 mod strikes;
 
+use base::causes;
 pub use parts::bands;
 pub use parts::live_months;
 pub use parts::neighbours;
 pub use series::name_refusal;
 
 // A calendar's refusal, 11 to 13: `length` is the calendar's, `month` stands beside 13.
-pub fn calendar_refusal(out: &mut [u8], at: usize, length: u32, number: u32, month: u32) -> usize {
+pub fn calendar_refusal(out: &mut [u8], at: usize, length: u32, number: u16, month: u32) -> usize {
     opening::refusal(out, at, number, length, month, 0, 0)
 }
 
@@ -22,22 +23,22 @@ pub fn refusal(
     at: usize,
     calendar: &[u8],
     register: &[u8],
-    number: u32,
+    number: u16,
     value: u32,
     x: u32,
     y: u32,
 ) -> usize {
     let stands = reading::day(register);
     let next = lookup::lookup_next_session(calendar, stands);
-    if number <= 17 {
-        let length = if number <= 13 {
+    if number <= causes::EMPTY {
+        let length = if number <= causes::CALENDAR_MONTH {
             opening::length(calendar)
         } else {
             opening::length(register)
         };
         return opening::refusal(out, at, number, length, value, stands, next);
     }
-    if number <= 21 {
+    if number <= causes::CLOSE {
         return sessions::refusal(out, at, calendar, register, number, stands, next, x, y);
     }
     strikes::refusal(out, at, calendar, register, number, stands, next, x, y)

@@ -1,5 +1,6 @@
 // Causes 11 to 17: the calendar, the register, and whether it runs.
 use crate::forms::tell;
+use base::causes;
 use calendar::CALENDAR_LENGTH;
 use dates::DAYS;
 use layout::REGISTER_LENGTH;
@@ -15,29 +16,29 @@ pub fn length(bytes: &[u8]) -> u32 {
     LONGEST as u32
 }
 
-fn letter(number: u32) -> u8 {
+fn letter(number: u16) -> u8 {
     match number {
-        11 => b'c',
-        12 => b'l',
-        13 => b'f',
-        14 => b'r',
-        15 => b'd',
-        16 => b's',
-        17 => b'e',
+        causes::CALENDAR_LENGTH => b'c',
+        causes::CALENDAR_TAIL => b'l',
+        causes::CALENDAR_MONTH => b'f',
+        causes::REGISTER_LENGTH => b'r',
+        causes::REGISTER_FORM => b'd',
+        causes::RUNNING => b's',
+        causes::EMPTY => b'e',
         _ => b'?',
     }
 }
 
-fn values(number: u32, length: u32, month: u32, stands: u32, next: u32) -> [u32; 6] {
+fn values(number: u16, length: u32, month: u32, stands: u32, next: u32) -> [u32; 6] {
     let first = lookup::lookup_first_day(month);
     let friday = lookup::lookup_third_friday(month);
     match number {
-        11 => [length, CALENDAR_LENGTH as u32, 0, 0, 0, 0],
-        12 => [DAYS as u32 - 1, 0, 0, 0, 0, 0],
-        13 => [month, first, friday, 0, 0, 0],
-        14 => [length, REGISTER_LENGTH as u32, 0, 0, 0, 0],
-        16 => [stands, next, 0, 0, 0, 0],
-        _ => [number, 0, 0, 0, 0, 0],
+        causes::CALENDAR_LENGTH => [length, CALENDAR_LENGTH as u32, 0, 0, 0, 0],
+        causes::CALENDAR_TAIL => [DAYS as u32 - 1, 0, 0, 0, 0, 0],
+        causes::CALENDAR_MONTH => [month, first, friday, 0, 0, 0],
+        causes::REGISTER_LENGTH => [length, REGISTER_LENGTH as u32, 0, 0, 0, 0],
+        causes::RUNNING => [stands, next, 0, 0, 0, 0],
+        _ => [number as u32, 0, 0, 0, 0, 0],
     }
 }
 
@@ -45,7 +46,7 @@ fn values(number: u32, length: u32, month: u32, stands: u32, next: u32) -> [u32;
 pub fn refusal(
     out: &mut [u8],
     at: usize,
-    number: u32,
+    number: u16,
     length: u32,
     month: u32,
     stands: u32,

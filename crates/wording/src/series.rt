@@ -1,5 +1,6 @@
 // Causes 27 to 29: names of series.
 use crate::forms::tell;
+use base::causes;
 use dates::MONTHS;
 use names::LENGTH;
 
@@ -14,18 +15,18 @@ fn misplaced(place: u32) -> u8 {
 }
 
 // A name's refusal: `place`, counted from 0, stands beside 29.
-pub fn name_refusal(out: &mut [u8], at: usize, number: u32, place: u32) -> usize {
+pub fn name_refusal(out: &mut [u8], at: usize, number: u16, place: u32) -> usize {
     let letter = match number {
-        27 => b'n',
-        28 => b's',
-        29 => misplaced(place),
+        causes::NAME_LENGTH => b'n',
+        causes::NAME_SERIES => b's',
+        causes::NAME_BYTE => misplaced(place),
         _ => b'?',
     };
     let value = match number {
-        27 => LENGTH as u32,
-        28 => MONTHS as u32 - 1,
-        29 => place % LENGTH as u32 + 1,
-        _ => number,
+        causes::NAME_LENGTH => LENGTH as u32,
+        causes::NAME_SERIES => MONTHS as u32 - 1,
+        causes::NAME_BYTE => place % LENGTH as u32 + 1,
+        _ => number as u32,
     };
     tell(
         out,

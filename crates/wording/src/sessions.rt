@@ -1,5 +1,6 @@
 // Causes 18 to 21: the day and the close of a start or a session. 20 is also an announcement's.
 use crate::forms::tell;
+use base::causes;
 use dates::DAYS;
 use dates::MONTHS;
 use grid::HIGHEST_CLOSE;
@@ -42,11 +43,11 @@ fn close_outside(close: u32) -> u8 {
     b'c'
 }
 
-fn letter(number: u32, stands: u32, next: u32, after: u32, first: u32, x: u32, y: u32) -> u8 {
+fn letter(number: u16, stands: u32, next: u32, after: u32, first: u32, x: u32, y: u32) -> u8 {
     match number {
-        18 => no_session(x, after),
-        19 => out_of_order(x, stands, next),
-        20 => if first < MONTHS as u32 { b'f' } else { b'l' },
+        causes::START_DAY => no_session(x, after),
+        causes::SESSION_DAY => out_of_order(x, stands, next),
+        causes::TOO_LATE => if first < MONTHS as u32 { b'f' } else { b'l' },
         _ => close_outside(y),
     }
 }
@@ -56,7 +57,7 @@ pub fn refusal(
     at: usize,
     calendar: &[u8],
     register: &[u8],
-    number: u32,
+    number: u16,
     stands: u32,
     next: u32,
     x: u32,

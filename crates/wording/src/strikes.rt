@@ -2,6 +2,7 @@
 use crate::forms::tell;
 use crate::parts;
 use layout::MOST_WAITING;
+use base::causes;
 use phrases::fill;
 use text::put;
 
@@ -11,13 +12,13 @@ fn month_refused(
     at: usize,
     calendar: &[u8],
     register: &[u8],
-    number: u32,
+    number: u16,
     stands: u32,
     month: u32,
 ) -> usize {
     let first = reading::first_live(calendar, register);
     let expiry = lookup::lookup_expiry(calendar, first);
-    let letter = if number == 26 {
+    let letter = if number == causes::ROWS_MONTH {
         b'l'
     } else if month == first {
         b'e'
@@ -36,7 +37,7 @@ fn month_refused(
         [month, stands, expiry, 0, 0, 0],
     );
     let at = parts::live_months(out, at, calendar, register);
-    if number == 26 {
+    if number == causes::ROWS_MONTH {
         return put(out, at, b"\n  ask for one of these\n");
     }
     open_months(out, at, parts::months(first), expiry <= stands)
@@ -101,7 +102,7 @@ fn price_refused(
     out: &mut [u8],
     at: usize,
     rows: &[u8],
-    number: u32,
+    number: u16,
     next: u32,
     month: u32,
     price: u32,
@@ -109,15 +110,15 @@ fn price_refused(
     let low = reading::lowest(rows);
     let high = reading::highest(rows);
     let letter = match number {
-        24 => needless(low, high, price),
-        25 => b'f',
+        causes::ANNOUNCE_KNOWN => needless(low, high, price),
+        causes::ANNOUNCE_FULL => b'f',
         _ => b'?',
     };
     let values = match letter {
         b'w' => [month, price, next, 0, 0, 0],
         b's' => [month, price, low, high, 0, 0],
         b'f' => [MOST_WAITING as u32, next, 0, 0, 0, 0],
-        _ => [number, 0, 0, 0, 0, 0],
+        _ => [number as u32, 0, 0, 0, 0, 0],
     };
     tell(
         out,
@@ -139,15 +140,17 @@ pub fn refusal(
     at: usize,
     calendar: &[u8],
     register: &[u8],
-    number: u32,
+    number: u16,
     stands: u32,
     next: u32,
     month: u32,
     price: u32,
 ) -> usize {
     match number {
-        22 | 26 => month_refused(out, at, calendar, register, number, stands, month),
-        23 => off_grid(out, at, calendar, next, month, price),
+        causes::ANNOUNCE_MONTH | causes::ROWS_MONTH => {
+            month_refused(out, at, calendar, register, number, stands, month)
+        }
+        causes::ANNOUNCE_PRICE => off_grid(out, at, calendar, next, month, price),
         _ => {
             let rows = rows::rows(calendar, register, month);
             price_refused(out, at, rows, number, next, month, price)

@@ -34,10 +34,11 @@ fn independent_check(bytes: &[u8]) -> CalendarResult {
 }
 
 /// Checks a calendar of which the result is not known beforehand.
-fn compare(run: &mut Run, bytes: &[u8], case: Arguments) {
+pub fn compare(run: &mut Run, bytes: &[u8], case: Arguments) -> u16 {
     let archive = raw::calendar_check(bytes);
     run.count(Call::CalendarCheck, archive.number);
     run.equal(archive, independent_check(bytes), case);
+    archive.number
 }
 
 /// Checks a calendar that was made to give this result, by the independent implementation too.

@@ -1,7 +1,7 @@
 //! The linked archives against the independent implementation, and registers after whole lists of
-//! calls against what the history of demand 3 demands. A run prints how much was compared and how
-//! often each call returned each number. It ends at the first difference, and fails too where a
-//! number that a call can return never came.
+//! calls against what the history of demand 3 demands. A run prints how much was compared, how
+//! often each call returned each number and how many pairs of its causes met. It ends at the first
+//! difference, and fails too where a number that a call can return never came.
 //!
 //! `RATTLE_LIB_DIR=<folder of libcapi.a and liblookup.a> cargo test --release --offline`
 
@@ -10,6 +10,7 @@ mod dates;
 mod grid;
 mod names;
 mod numbers;
+mod orders;
 mod register;
 mod room;
 mod run;
@@ -21,7 +22,7 @@ use run::Run;
 
 type Test = fn(&mut Run);
 
-const PARTS: [(&str, Test); 13] = [
+const PARTS: [(&str, Test); 14] = [
     ("days and months", dates::test),
     ("calendar checks", calendar::test_checks),
     ("Warsaw calendar", calendar::test_warsaw),
@@ -35,6 +36,7 @@ const PARTS: [(&str, Test); 13] = [
     ("full registers", register::test_full),
     ("made registers", register::test_made),
     ("damaged registers", register::test_damaged),
+    ("two causes at once", orders::test),
 ];
 
 fn main() {

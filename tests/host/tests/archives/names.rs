@@ -28,7 +28,13 @@ impl Debug for Text<'_> {
 }
 
 /// Writes into equal rooms and compares the number and every byte, the guards too.
-fn compare_writing(run: &mut Run, length: usize, month: u32, option_type: u32, price: u32) {
+pub fn compare_writing(
+    run: &mut Run,
+    length: usize,
+    month: u32,
+    option_type: u32,
+    price: u32,
+) -> u16 {
     let mut archive_room = [GUARD_BYTE; ROOM];
     let mut wanted_room = archive_room;
     let name = &mut archive_room[GUARD..][..length];
@@ -44,6 +50,7 @@ fn compare_writing(run: &mut Run, length: usize, month: u32, option_type: u32, p
     );
     run.equal(archive, wanted, case);
     run.equal(Text(&archive_room), Text(&wanted_room), case);
+    archive
 }
 
 fn result(number: u16, month: u16, option_type: u16, price: u16) -> NameResult {
@@ -64,14 +71,15 @@ fn independent_read(name: &[u8]) -> NameResult {
 }
 
 /// Reads a name that is to give this result.
-fn expect_reading(run: &mut Run, name: &[u8], wanted: NameResult) {
+fn expect_reading(run: &mut Run, name: &[u8], wanted: NameResult) -> u16 {
     let archive = raw::name_read(name);
     run.count(Call::NameRead, archive.number);
     run.equal(archive, wanted, format_args!("reading {:?}", Text(name)));
+    archive.number
 }
 
-fn compare_reading(run: &mut Run, name: &[u8]) {
-    expect_reading(run, name, independent_read(name));
+pub fn compare_reading(run: &mut Run, name: &[u8]) -> u16 {
+    expect_reading(run, name, independent_read(name))
 }
 
 fn name_of(month: u16, option_type: u16, price: u16) -> [u8; NAME_BYTES] {

@@ -7,9 +7,9 @@ mod desk;
 mod full;
 mod lists;
 mod made;
-mod pair;
+pub mod pair;
 mod rows;
-mod specimens;
+pub mod specimens;
 
 pub use damaged::test as test_damaged;
 pub use full::test as test_full;

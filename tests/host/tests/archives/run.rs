@@ -1,67 +1,24 @@
 //! Comparing, counting and telling.
 
-use std::collections::BTreeMap;
+mod calls;
+
+use std::collections::{BTreeMap, BTreeSet};
 use std::fmt::{Arguments, Debug};
 use std::process::exit;
 
 use independent::judge::Complaint;
 
+use crate::orders;
 use crate::room::Room;
 
-/// The calls of the C interface.
-#[derive(Debug, Clone, Copy, PartialEq, Eq, PartialOrd, Ord)]
-pub enum Call {
-    CalendarCheck,
-    Start,
-    Session,
-    Announce,
-    Rows,
-    NameWrite,
-    NameRead,
-}
-
-impl Call {
-    const ALL: [Self; 7] = [
-        Self::CalendarCheck,
-        Self::Start,
-        Self::Session,
-        Self::Announce,
-        Self::Rows,
-        Self::NameWrite,
-        Self::NameRead,
-    ];
-
-    fn name(self) -> &'static str {
-        match self {
-            Self::CalendarCheck => "calendar_check",
-            Self::Start => "start",
-            Self::Session => "session",
-            Self::Announce => "announce",
-            Self::Rows => "rows",
-            Self::NameWrite => "name_write",
-            Self::NameRead => "name_read",
-        }
-    }
-
-    /// The numbers that the call can return.
-    fn numbers(self) -> &'static [u16] {
-        match self {
-            Self::CalendarCheck => &[0, 11, 12, 13],
-            Self::Start => &[0, 11, 12, 13, 14, 15, 16, 18, 20, 21],
-            Self::Session => &[0, 11, 12, 13, 14, 15, 17, 19, 20, 21],
-            Self::Announce => &[0, 11, 12, 13, 14, 15, 17, 20, 22, 23, 24, 25],
-            Self::Rows => &[0, 11, 12, 13, 14, 15, 17, 26],
-            Self::NameWrite => &[0, 27, 28],
-            Self::NameRead => &[0, 27, 28, 29],
-        }
-    }
-}
+pub use calls::Call;
 
 /// What has been compared so far.
 #[derive(Default)]
 pub struct Run {
     comparisons: u64,
     returned: BTreeMap<(Call, u16), u64>,
+    met: BTreeSet<(Call, u16, u16)>,
 }
 
 impl Run {
@@ -101,6 +58,11 @@ impl Run {
         *self.returned.entry((call, number)).or_default() += 1;
     }
 
+    /// Counts two causes of a call that held at once.
+    pub fn count_meeting(&mut self, call: Call, first: u16, second: u16) {
+        self.met.insert((call, first, second));
+    }
+
     /// Adds what a part counted, and tells how much it compared.
     pub fn add(&mut self, name: &str, part: Self) {
         print_comparisons(name, part.comparisons);
@@ -108,20 +70,37 @@ impl Run {
         for (returned, times) in part.returned {
             *self.returned.entry(returned).or_default() += times;
         }
+        self.met.extend(part.met);
     }
 
-    /// Prints how often each number came, and fails where one is missing.
+    /// Prints how often each number came and how many pairs of causes met, and fails where one is
+    /// missing.
     pub fn finish(&self) {
         print_comparisons("all parts", self.comparisons);
         print_row("returned", Call::ALL.map(|call| call.name().to_string()));
-        for number in (0..=29).filter(|&number| can_come(number)) {
+        let numbers: BTreeSet<u16> = Call::ALL
+            .iter()
+            .flat_map(|call| call.numbers())
+            .copied()
+            .collect();
+        for number in numbers {
             let cells = Call::ALL.map(|call| self.cell(call, number));
             print_row(&number.to_string(), cells);
         }
+        let pairs = |call| self.met.iter().filter(|pair| pair.0 == call).count();
+        print_row("pairs met", Call::ALL.map(|call| pairs(call).to_string()));
         for call in Call::ALL {
             for &number in call.numbers() {
                 if self.times(call, number) == 0 {
                     fail(format_args!("{} never returned {number}", call.name()));
+                }
+            }
+            for (first, second) in orders::pairs(call) {
+                if !self.met.contains(&(call, first, second)) {
+                    let call = call.name();
+                    fail(format_args!(
+                        "{call} never had {first} and {second} at once"
+                    ));
                 }
             }
         }
@@ -139,12 +118,6 @@ impl Run {
             "-".to_string()
         }
     }
-}
-
-fn can_come(number: u16) -> bool {
-    Call::ALL
-        .iter()
-        .any(|call| call.numbers().contains(&number))
 }
 
 fn print_comparisons(part: &str, comparisons: u64) {

@@ -39,7 +39,7 @@ fn empty(name: &'static str) -> Specimen {
     }
 }
 
-fn started() -> Specimen {
+pub fn started() -> Specimen {
     empty("a register just started").start(JUNE_EXPIRY - 3, CLOSE)
 }
 
@@ -52,7 +52,7 @@ fn expiry_day() -> Specimen {
     specimen
 }
 
-fn all_places_taken() -> Specimen {
+pub fn all_places_taken() -> Specimen {
     let mut specimen = empty("a register with 32 waiting").start(JUNE_EXPIRY - 3, CLOSE);
     let above = grid::between(Tier::N, 3_000, u16::MAX);
     for &price in &above[..MOST_ANNOUNCEMENTS] {
@@ -85,7 +85,7 @@ fn full() -> Specimen {
 }
 
 /// After this day the first live month is too late.
-fn last_day() -> Specimen {
+pub fn last_day() -> Specimen {
     let day = third_friday(LATEST_FIRST_MONTH);
     empty("a register on the last day").start(day, CLOSE)
 }
