@@ -4,3 +4,5 @@ pub mod Ascend
 pub mod Closing
 pub mod JournalLaws
 pub mod Outcomes
+pub mod EveryDay
+pub mod Accepts
