@@ -6,3 +6,5 @@ pub mod JournalLaws
 pub mod Outcomes
 pub mod EveryDay
 pub mod Accepts
+pub mod Written
+pub mod Lasting
