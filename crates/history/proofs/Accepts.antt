@@ -143,9 +143,10 @@ november : (firstDay 322 ≡ 9801) × (thirdFriday 322 ≡ 9820)
 unfolding thirdFriday firstDay monthDays friday firstFrom
 november = (refl, refl)
 
-pub november-first : firstLive everyDay 9816 ≡ 322
-november-first = every-day-first 9816 322 (lit< tt) (omega (arith, november .0)) (omega (arith, november .1))
+pub november-first : (d : ℕ) → 9801 ≤ d → d ≤ 9820 → firstLive everyDay d ≡ 322
+november-first d from to = every-day-first d 322 (lit< tt) (omega (arith, november .0)) (omega (arith, november .1))
 
 pub one-start-accepted : numberAt (rules everyDay) (start 9816 241337) emptyRegister ≡ 0
 one-start-accepted =
-    start-accepted everyDay every-day-passes 9816 241337 (lit≤ tt) (every-day-session 9816 (lit≤ tt)) (omega (arith, november-first)) (lit≤ tt) (lit≤ tt)
+    start-accepted everyDay every-day-passes 9816 241337 (lit≤ tt) (every-day-session 9816 (lit≤ tt))
+    (omega (arith, november-first 9816 (lit≤ tt) (lit≤ tt))) (lit≤ tt) (lit≤ tt)

@@ -141,10 +141,10 @@ module _ (cal : List ℕ) where
 -- ---- a month that was live and is live again has been live between
 module _ (f m : ℕ) where
   -- one of the first three, or a quarterly month up to the last
-  abbrev InReach : Type 0
+  abbrev pub InReach : Type 0
   InReach = (m ≤ f + 2) ⊎ ((m % 3 ≡ 2) × (m ≤ nextQuarter f + 6))
 
-  live-e : elem m (liveMonths f) ≡ true → (f ≤ m) × InReach
+  pub live-e : elem m (liveMonths f) ≡ true → (f ≤ m) × InReach
   unfolding elem liveMonths
   live-e e =
       let q : ℕ = nextQuarter f in
@@ -156,14 +156,14 @@ module _ (f m : ℕ) where
       or-e (eqb m (q + 3)) _ e₄ (λ t. let z = eqb-true m (q + 3) t in (omega arith, inr (omega arith, omega arith))) λ e₅.
       or-e (eqb m (q + 6)) _ e₅ (λ t. let z = eqb-true m (q + 6) t in (omega arith, inr (omega arith, omega arith))) λ e₆. absurd (false≢true e₆)
 
-  live-near : f ≤ m → m ≤ f + 2 → elem m (liveMonths f) ≡ true
+  pub live-near : f ≤ m → m ≤ f + 2 → elem m (liveMonths f) ≡ true
   unfolding elem liveMonths
   live-near a c =
       byBool (eqb m f) (λ t. or-l (eqb m f) _ t) λ x. or-r (eqb m f) _
       (byBool (eqb m (f + 1)) (λ t. or-l (eqb m (f + 1)) _ t) λ y. or-r (eqb m (f + 1)) _
       (or-l (eqb m (f + 2)) _ (eq-eqb m (f + 2) (omega (arith, eqb-false m f x, eqb-false m (f + 1) y)))))
 
-  live-far : f + 2 < m → m % 3 ≡ 2 → m ≤ nextQuarter f + 6 → elem m (liveMonths f) ≡ true
+  pub live-far : f + 2 < m → m % 3 ≡ 2 → m ≤ nextQuarter f + 6 → elem m (liveMonths f) ≡ true
   unfolding elem liveMonths
   live-far a c u =
       let q : ℕ = nextQuarter f in
