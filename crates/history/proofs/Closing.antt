@@ -108,7 +108,7 @@ module _ (R : Rules) (L : Laws R) where
     }
 
   -- ---- one call, and a list of calls
-  last-number : (k : Call) (bs : List ℕ) → numberAt R k bs ≡ 0 → number R k (regOf bs) ≡ 0
+  pub last-number : (k : Call) (bs : List ℕ) → numberAt R k bs ≡ 0 → number R k (regOf bs) ≡ 0
   unfolding numberAt opened
   last-number k bs z =
       let z₁ = none-of _ _ z .1 in
@@ -116,7 +116,7 @@ module _ (R : Rules) (L : Laws R) where
       let z₃ = none-of _ _ z₂ .1 in
       none-of _ _ z₃ .0
 
-  reg-fits : (h : History) (r : Reg) → Agree R h r → SoundReg R L r → RegFits r
+  pub reg-fits : (h : History) (r : Reg) → Agree R h r → SoundReg R L r → RegFits r
   reg-fits h empty a v = tt
   reg-fits h (running b) a v = fits h b a v
 
@@ -163,7 +163,7 @@ module _ (R : Rules) (L : Laws R) where
   well-reg h empty a v = refl
   well-reg h (running b) a v = well R h b a v
 
-  reached-stands : (h : History) (bs : List ℕ) → Reached h bs → (length bs ≡ registerLength) × (stands R bs ≡ true)
+  pub reached-stands : (h : History) (bs : List ℕ) → Reached h bs → (length bs ≡ registerLength) × (stands R bs ≡ true)
   unfolding stands
   reached-stands h bs x =
       let f = reg-fits h (x .reg) (x .agree) (x .sound) in

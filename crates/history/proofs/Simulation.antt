@@ -115,20 +115,23 @@ module _ (R : Rules) where
     unfolding key
     key-within m p k = and-r (elem p (R .grid (b .at) m)) _ (sym (between-is (b .at) (h .low) (h .high) m p) ∙ and-r (elem m (R .live (b .at))) _ k)
 
+    -- a live month's lowest and highest price have rows, so they are its span
+    pub low-there : (m : ℕ) → elem m (R .live (b .at)) ≡ true → elem (h .low m) (pricesOf m (b .rows)) ≡ true
+    low-there m l = let lh = s .low-high m l in prices-are m (h .low m) ∙ key-i m (h .low m) l (s .low-on m l) (omega arith) lh
+
+    pub high-there : (m : ℕ) → elem m (R .live (b .at)) ≡ true → elem (h .high m) (pricesOf m (b .rows)) ≡ true
+    high-there m l = let lh = s .low-high m l in prices-are m (h .high m) ∙ key-i m (h .high m) l (s .high-on m l) lh (omega arith)
+
     pub span-low : (m : ℕ) → elem m (R .live (b .at)) ≡ true → spanLow b m ≡ h .low m
     unfolding spanLow
     span-low m l =
-        let lh = s .low-high m l in
-        least-is (h .low m) (pricesOf m (b .rows))
-        (prices-are m (h .low m) ∙ key-i m (h .low m) l (s .low-on m l) (omega arith) lh)
+        least-is (h .low m) (pricesOf m (b .rows)) (low-there m l)
         (λ p e. within-l (h .low m) (h .high m) p (key-within m p (sym (prices-are m p) ∙ e)))
 
     pub span-high : (m : ℕ) → elem m (R .live (b .at)) ≡ true → spanHigh b m ≡ h .high m
     unfolding spanHigh
     span-high m l =
-        let lh = s .low-high m l in
-        greatest-is (h .high m) (pricesOf m (b .rows))
-        (prices-are m (h .high m) ∙ key-i m (h .high m) l (s .high-on m l) lh (omega arith))
+        greatest-is (h .high m) (pricesOf m (b .rows)) (high-there m l)
         (λ p e. within-r (h .low m) (h .high m) p (key-within m p (sym (prices-are m p) ∙ e)))
 
     -- ---- a session's spans are the history's

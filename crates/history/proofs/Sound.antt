@@ -11,17 +11,18 @@ use borrow.Author.Tests.{eqb-true, eq-eqb, leb-false, le-leb, ltb-false, not-fal
 use Rattle.base.specs.Lists.{elem, within}
 use Rattle.base.specs.Causes.{firstOf}
 use Rattle.base.proofs.Tests.{byBool, and-l, and-r, and-i, or-fr, eqb-self}
+use Rattle.base.proofs.ListLaws.{elem-here, elem-there}
 use Rattle.base.proofs.CauseLaws.{none-of, not-cause}
 use Rattle.dates.specs.Months.{dayCount}
 use Rattle.rules.specs.Rules.{Moment, Rules}
 use Rattle.calls.specs.Calls.{Call, start, session, announce}
 use Rattle.rules.proofs.Laws.{Laws}
-use Rattle.layout.specs.Rows.{Entry, newEntry, entryOk, Row, ladder, rowsOf, find, pricesOf}
+use Rattle.layout.specs.Rows.{Entry, newEntry, entryOk, Row, ladder, rowsOf, find}
 use Rattle.layout.specs.Register.{Body, Reg, empty, running, waitingOf, spanLow, spanHigh, sameKeys, entriesOk, listed, announceCauses, waitingOk, wellFormed}
 use Rattle.layout.proofs.RowLaws.{all-some, entry-later, entry-new, rowsOf-same}
 use Rattle.calls.specs.Listing.{closeLow, closeHigh, newLow, newHigh, kept, newOrigin, startBody, sessionBody, announceBody, number, accepted}
 use Rattle.history.specs.History.{History, between}
-use Rattle.history.proofs.Simulation.{Running, prices-are, key-i, span-low, span-high, session-told}
+use Rattle.history.proofs.Simulation.{Running, low-there, span-low, span-high, session-told}
 
 -- what is well formed beyond the agreement with the history
 pub record Sound (R : Rules) (b : Body) : Type 0 where
@@ -90,14 +91,9 @@ module _ (R : Rules) where
         (and-i (v .good-at)
         (and-i (v .live-ok)
         (and-i keys
-        (and-i (all-some b (R .live (b .at)) low-there)
+        (and-i (all-some b (R .live (b .at)) (λ m l. rw (span-low R h b s m l) (low-there R h b s m l)))
         (and-i (v .rows-ok) (and-i (v .short) (v .waiting-ok)))))))
       where
-        low-there : (m : ℕ) → elem m (R .live (b .at)) ≡ true → elem (spanLow b m) (pricesOf m (b .rows)) ≡ true
-        low-there m l =
-            let lh = s .low-high m l in
-            rw (span-low R h b s m l) (prices-are R h b s m (h .low m) ∙ key-i R h b s m (h .low m) l (s .low-on m l) (omega arith) lh)
-
         span : (m : ℕ) → elem m (R .live (b .at)) ≡ true → listed R (b .at) (spanLow b) (spanHigh b) m ≡ between R (b .at) (h .low) (h .high) m
         span m l = rw (span-low R h b s m l, span-high R h b s m l)
 

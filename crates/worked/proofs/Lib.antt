@@ -1,5 +1,6 @@
-pub mod Refused
+pub mod Returns
 pub mod Months
 pub mod Starts
 pub mod Relists
 pub mod Worked
+pub mod Instances
