@@ -1,13 +1,13 @@
 -- What a call tells and leaves, by the way in which it opens.
 -- Assumes nothing.
-use mathlib.Core.Path.{_≡_, refl, sym, _∙_}
-use mathlib.Core.Bool.{Bool, true, false}
+use mathlib.Core.Path.{_≡_, refl, _∙_}
+use mathlib.Core.Bool.{Bool, true, false, true≢false}
 use mathlib.Core.List.{List, [], _∷_}
 use Prim.Native.Nat.{ℕ}
-use native.Mathlib.Omega.{arith}
-use lib.Dec.{eqb, leb}
+use lib.Dec.{eqb}
 use lib.ListN.{length}
-use borrow.Author.Tests.{ne-eqb, leb-true}
+use borrow.Author.Tests.{ne-eqb}
+use Rattle.base.specs.Lists.{within}
 use Rattle.base.specs.Causes.{cause, firstOf}
 use Rattle.base.proofs.Tests.{byBool}
 use Rattle.rules.specs.Rules.{Rules}
@@ -21,34 +21,31 @@ use Rattle.calls.specs.Answers.{numberAt, afterAt, rowsHeld, added, remo
 use Rattle.calls.specs.declared.Listed.{Listed}
 use Rattle.calls.specs.declared.Told.{Told}
 
--- ---- a call's own causes are 16 and on, and so none is 13, which tells a month
+-- ---- a call's own number is 0 or a cause from 16 on: 11 to 15 are what every call opens with
 abbrev Own : ℕ → Type 0
-Own n = n ≡ 13 → ⊥
-
-own : (n : ℕ) → leb 16 n ≡ true → Own n
-own n l h = omega (arith, leb-true 16 n l)
+Own n = within 1 15 n ≡ false
 
 none : Own (firstOf [])
+unfolding firstOf within
+none = refl
+
+first : (n : ℕ) (ns : List ℕ) → Own n → Own (firstOf ns) → Own (firstOf (n ∷ ns))
 unfolding firstOf
-none h = omega arith
+first n ns a b = byBool (eqb n 0) (λ e. rw e b) (λ e. rw e a)
 
-some : (n : ℕ) (ns : List ℕ) → Own n → Own (firstOf ns) → Own (firstOf (n ∷ ns))
-unfolding firstOf
-some n ns a b h = byBool (eqb n 0) (λ e. b (rw e at h)) (λ e. a (rw e at h))
+held : (b : Bool) (n : ℕ) (ns : List ℕ) → Own n → Own (firstOf ns) → Own (firstOf (cause b n ∷ ns))
+unfolding cause within
+held true n ns a r = first n ns a r
+held false n ns a r = first 0 ns refl r
 
-held : (b : Bool) (n : ℕ) (ns : List ℕ) → leb 16 n ≡ true → Own (firstOf ns) → Own (firstOf (cause b n ∷ ns))
-unfolding cause
-held true n ns l r = some n ns (own n l) r
-held false n ns l r = some 0 ns (λ h. omega arith) r
-
-own-not-13 : (R : Rules) (k : Call) (r : Reg) → Own (number R k r)
-unfolding number announceCauses
-own-not-13 R (start d c) empty = held _ _ _ refl (held _ _ _ refl (held _ _ _ refl none))
-own-not-13 R (start d c) (running b) = own _ refl
-own-not-13 R (session d c) empty = own _ refl
-own-not-13 R (session d c) (running b) = held _ _ _ refl (held _ _ _ refl (held _ _ _ refl none))
-own-not-13 R (announce m p) empty = own _ refl
-own-not-13 R (announce m p) (running b) = some _ _ (held _ _ _ refl (held _ _ _ refl (held _ _ _ refl (held _ _ _ refl none)))) (held _ _ _ refl none)
+own-number : (R : Rules) (k : Call) (r : Reg) → Own (number R k r)
+unfolding number announceCauses within
+own-number R (start d c) empty = held _ _ _ refl (held _ _ _ refl (held _ _ _ refl none))
+own-number R (start d c) (running b) = refl
+own-number R (session d c) empty = refl
+own-number R (session d c) (running b) = held _ _ _ refl (held _ _ _ refl (held _ _ _ refl none))
+own-number R (announce m p) empty = refl
+own-number R (announce m p) (running b) = first _ _ (held _ _ _ refl (held _ _ _ refl (held _ _ _ refl (held _ _ _ refl none)))) (held _ _ _ refl none)
 
 module _ (cal bs : List ℕ) (k : Call) where
   -- ---- a refusal tells its number, zeros and beside 13 the month, and leaves the bytes as they are
@@ -73,7 +70,9 @@ module _ (cal bs : List ℕ) (k : Call) where
   module _ (r : Reg) (x : Reads cal bs r) where
     -- is refused by a cause of its own
     pub own-refused : (n : ℕ) → n ≡ number (rules cal) k r → (n ≡ 0 → ⊥) → Refused cal bs (number (rules cal) k (regOf bs)) n 0
-    own-refused n e z = refused-own cal bs r x (number (rules cal) k) n e z (λ q. own-not-13 (rules cal) k r (sym e ∙ q))
+    unfolding within
+    own-refused n e z =
+        refused-own cal bs r x (number (rules cal) k) n e z (λ q. true≢false (rw (← e, q) at (own-number (rules cal) k r)))
 
     -- or accepted
     module _ (e : number (rules cal) k r ≡ 0) where
