@@ -9,11 +9,11 @@ use Prim.Native.Nat.{ℕ, _≤_, _<_}
 use native.Mathlib.Omega.{arith}
 use lib.Dec.{leb, lit<, lit≤}
 use lib.ListN.{length, getD, drop}
-use borrow.Author.Tests.{lt-ltb, le-ltb, lt-leb, eq-eqb, not-true}
+use borrow.Author.Tests.{lt-ltb, le-ltb, lt-leb, eq-eqb}
 use Rattle.base.specs.Search.{firstFrom}
 use Rattle.base.specs.Lists.{elem, within}
 use Rattle.base.specs.Causes.{cause, firstOf}
-use Rattle.base.proofs.Tests.{and-i, and-l, and-r, and-no}
+use Rattle.base.proofs.Tests.{and-no}
 use Rattle.base.proofs.ListLaws.{within-i}
 use Rattle.base.proofs.CauseLaws.{alone, passed}
 use Rattle.dates.specs.Months.{friday, monthDays, firstDay, thirdFriday}
@@ -24,9 +24,8 @@ use Rattle.rules.specs.Rulebook.{firstAt, tierAt, rules}
 use Rattle.rules.specs.Calls.{Call, start, session, announce}
 use Rattle.rules.proofs.RulebookLaws.{laws}
 use Rattle.register.specs.Register.{empty, running, waitingOf, spanLow, spanHigh, announceCauses}
-use Rattle.register.specs.Bytes.{bytesOf, at16, bodyOf, allZero, regOf}
+use Rattle.register.specs.Bytes.{placesFrom, bytesOf, at16, bodyOf, allZero, regOf}
 use Rattle.register.specs.Opening.{opened, stands, rowsCause, rowsNumber}
-use Rattle.register.specs.Spans.{runsWell}
 use Rattle.register.proofs.ByteLaws.{back}
 use Rattle.register.proofs.Kept.{places-count}
 use Rattle.register.proofs.Opens.{says-own}
@@ -73,12 +72,11 @@ start-accepted cal passes d c hd hs hl lo hi = start-number cal passes d c hd hs
 
 -- ---- the other calls, on a running register: 11,264 bytes that are not all zero, keep the layout and are well formed
 abbrev pub Runs : List ℕ → List ℕ → Type 0
-Runs cal bs = (length bs ≡ 11264) × (runsWell cal bs ≡ true)
+Runs cal bs = (length bs ≡ 11264) × (allZero bs ≡ false) × (stands (rules cal) bs ≡ true)
 
 -- whatever calls leave is such a register, unless it is empty still
 pub reached-runs : (cal : List ℕ) (calls : List Call) → let bs = finalAt (rules cal) calls emptyRegister in allZero bs ≡ false → Runs cal bs
-unfolding runsWell
-reached-runs cal calls z = let s = always-stands (rules cal) (laws cal) calls in (s .0, and-i (ap not z) (s .1))
+reached-runs cal calls z = let s = always-stands (rules cal) (laws cal) calls in (s .0, z, s .1)
 
 -- not from lo to hi
 outside : (lo hi p : ℕ) → (p < lo) ⊎ (hi < p) → within lo hi p ≡ false
@@ -88,13 +86,12 @@ outside lo hi p (inr h) = and-no (leb lo p) (leb p hi) (lt-leb p hi h)
 
 module _ (cal bs : List ℕ) where
   pub run-read : Runs cal bs → regOf bs ≡ running (bodyOf bs)
-  unfolding regOf runsWell
-  run-read run = rw (not-true (allZero bs) (and-l (not (allZero bs)) _ (run .1)))
+  unfolding regOf
+  run-read run = rw (run .1)
 
   module _ (passes : Passes cal) (run : Runs cal bs) where
     says : (own : ℕ) → opened (rules cal) bs own ≡ own
-    unfolding runsWell
-    says own = says-own cal bs passes (run .0) own (and-r (not (allZero bs)) _ (run .1))
+    says own = says-own cal bs passes (run .0) own (run .2)
 
     -- bytes 2–3 hold the day
     pub session-number : (d c : ℕ) → d ≡ nextSession cal (at16 bs 2) → firstLive cal d ≤ 1190
@@ -130,7 +127,7 @@ module _ (cal bs : List ℕ) where
           on,
           outside (spanLow (bodyOf bs) m) (spanHigh (bodyOf bs) m) p out,
           fresh,
-          places-count (getD bs 1 0) (drop 8 bs),
+          places-count (getD bs 1 0) (drop placesFrom bs),
           lt-leb 32 (getD bs 1 0) room,
         )
 
