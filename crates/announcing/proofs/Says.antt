@@ -26,7 +26,8 @@ use Rattle.base.specs.Words.{at16}
 use Rattle.layout.specs.Spans.{spansOf, placesAt, spanIn}
 use Rattle.register.specs.Check.{causesAt}
 use Rattle.layout.proofs.ByteLaws.{places-count}
-use Rattle.register.proofs.Well.{Running, run-keeps, run-first}
+use Rattle.layout.proofs.Running.{Running}
+use Rattle.register.proofs.Well.{run-keeps, run-first}
 use Rattle.register.proofs.Waiting.{causes-are}
 use Rattle.calls.specs.Listing.{number}
 use Rattle.announcing.specs.Placing.{Room}

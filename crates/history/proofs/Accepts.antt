@@ -9,11 +9,11 @@ use Prim.Native.Nat.{ℕ, _≤_, _<_}
 use native.Mathlib.Omega.{arith}
 use lib.Dec.{leb, lit<, lit≤}
 use lib.ListN.{length, getD, drop}
-use borrow.Author.Tests.{lt-ltb, le-ltb, lt-leb, eq-eqb, not-true}
+use borrow.Author.Tests.{lt-ltb, le-ltb, lt-leb, eq-eqb}
 use Rattle.base.specs.Search.{firstFrom}
 use Rattle.base.specs.Lists.{elem, within}
 use Rattle.base.specs.Causes.{cause, firstOf}
-use Rattle.base.proofs.Tests.{and-i, and-l, and-r, and-no}
+use Rattle.base.proofs.Tests.{and-no}
 use Rattle.base.proofs.ListLaws.{within-i}
 use Rattle.base.proofs.CauseLaws.{alone, passed}
 use Rattle.dates.specs.Months.{friday, monthDays, firstDay, thirdFriday}
@@ -24,13 +24,12 @@ use Rattle.rules.specs.Rulebook.{firstAt, tierAt, rules}
 use Rattle.calls.specs.Calls.{Call, start, session, announce}
 use Rattle.rules.proofs.RulebookLaws.{laws}
 use Rattle.layout.specs.Register.{empty, running, waitingOf, spanLow, spanHigh, announceCauses}
-use Rattle.layout.specs.Bytes.{bytesOf, bodyOf, allZero, regOf}
+use Rattle.layout.specs.Bytes.{placesFrom, bytesOf, bodyOf, allZero, regOf}
 use Rattle.base.specs.Words.{at16}
 use Rattle.layout.specs.Opening.{opened, stands}
 use Rattle.calls.specs.RowsCall.{rowsCause, rowsNumber}
-use Rattle.layout.specs.Spans.{runsWell}
 use Rattle.layout.proofs.ByteLaws.{back, places-count}
-use Rattle.register.proofs.Opens.{says-own}
+use Rattle.layout.proofs.OpeningLaws.{says-own}
 use Rattle.calls.specs.Listing.{number}
 use Rattle.calls.specs.Answers.{numberAt}
 use Rattle.history.specs.Claim.{emptyRegister, finalAt}
@@ -64,7 +63,7 @@ module _ (cal : List ℕ) (passes : Passes cal) (d c : ℕ) (hd : d ≤ 36524) (
   unfolding numberAt
   start-number =
       let s = empty-stands cal in
-      says-own cal emptyRegister passes (s .0) (number (rules cal) (start d c) (regOf emptyRegister)) (s .1)
+      says-own (rules cal) emptyRegister (number (rules cal) (start d c) (regOf emptyRegister)) passes (s .0) (s .1)
       ∙ ap (number (rules cal) (start d c)) empty-read
       ∙ start-own
 
@@ -74,12 +73,11 @@ start-accepted cal passes d c hd hs hl lo hi = start-number cal passes d c hd hs
 
 -- ---- the other calls, on a running register: 11,264 bytes that are not all zero, keep the layout and are well formed
 abbrev pub Runs : List ℕ → List ℕ → Type 0
-Runs cal bs = (length bs ≡ 11264) × (runsWell cal bs ≡ true)
+Runs cal bs = (length bs ≡ 11264) × (allZero bs ≡ false) × (stands (rules cal) bs ≡ true)
 
 -- whatever calls leave is such a register, unless it is empty still
 pub reached-runs : (cal : List ℕ) (calls : List Call) → let bs = finalAt (rules cal) calls emptyRegister in allZero bs ≡ false → Runs cal bs
-unfolding runsWell
-reached-runs cal calls z = let s = always-stands (rules cal) (laws cal) calls in (s .0, and-i (ap not z) (s .1))
+reached-runs cal calls z = let s = always-stands (rules cal) (laws cal) calls in (s .0, z, s .1)
 
 -- not from lo to hi
 outside : (lo hi p : ℕ) → (p < lo) ⊎ (hi < p) → within lo hi p ≡ false
@@ -89,13 +87,12 @@ outside lo hi p (inr h) = and-no (leb lo p) (leb p hi) (lt-leb p hi h)
 
 module _ (cal bs : List ℕ) where
   pub run-read : Runs cal bs → regOf bs ≡ running (bodyOf bs)
-  unfolding regOf runsWell
-  run-read run = rw (not-true (allZero bs) (and-l (not (allZero bs)) _ (run .1)))
+  unfolding regOf
+  run-read run = rw (run .1)
 
   module _ (passes : Passes cal) (run : Runs cal bs) where
     says : (own : ℕ) → opened (rules cal) bs own ≡ own
-    unfolding runsWell
-    says own = says-own cal bs passes (run .0) own (and-r (not (allZero bs)) _ (run .1))
+    says own = says-own (rules cal) bs own passes (run .0) (run .2)
 
     -- bytes 2–3 hold the day
     pub session-number : (d c : ℕ) → d ≡ nextSession cal (at16 bs 2) → firstLive cal d ≤ 1190
@@ -131,7 +128,7 @@ module _ (cal bs : List ℕ) where
           on,
           outside (spanLow (bodyOf bs) m) (spanHigh (bodyOf bs) m) p out,
           fresh,
-          places-count (getD bs 1 0) (drop 8 bs),
+          places-count (getD bs 1 0) (drop placesFrom bs),
           lt-leb 32 (getD bs 1 0) room,
         )
 

@@ -11,7 +11,6 @@ use borrow.Author.Tests.{eqb-true, eq-eqb, leb-false, le-leb, ltb-false, not-fal
 use Rattle.base.specs.Lists.{elem, within}
 use Rattle.base.specs.Causes.{firstOf}
 use Rattle.base.proofs.Tests.{byBool, and-l, and-r, and-i, or-fr, eqb-self}
-use Rattle.base.proofs.ListLaws.{elem-here, elem-there}
 use Rattle.base.proofs.CauseLaws.{none-of, not-cause}
 use Rattle.dates.specs.Months.{dayCount}
 use Rattle.rules.specs.Rules.{Moment, Rules}

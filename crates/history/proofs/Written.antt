@@ -2,7 +2,7 @@
 -- definitions say of its rows.
 -- Assumes nothing.
 use mathlib.Core.Path.{_≡_, refl, ap, _∙_}
-use mathlib.Core.Bool.{true, false, cond, _&&_, false≢true}
+use mathlib.Core.Bool.{true, false, cond, not, _&&_, false≢true}
 use mathlib.Core.List.{List, [], _∷_, _++_}
 use mathlib.Core.Option.{none, some}
 use Prim.Native.Nat.{ℕ}
@@ -10,7 +10,7 @@ use lib.Dec.{eqb}
 use borrow.Author.Tests.{eqb-true, not-false}
 use Rattle.base.specs.Lists.{elem}
 use Rattle.base.specs.Causes.{firstOf}
-use Rattle.base.proofs.Tests.{byBool, and-l, and-r, or-e}
+use Rattle.base.proofs.Tests.{byBool, and-l, and-r, and-i, or-e}
 use Rattle.base.proofs.CauseLaws.{none-of, not-cause}
 use Rattle.calendar.specs.Calendar.{Passes}
 use Rattle.calendar.specs.Live.{firstLive, liveMonths, tierOf}
@@ -27,8 +27,8 @@ use Rattle.layout.specs.Bytes.{bodyOf, bodyBytes, bytesOf, allZero, regOf}
 use Rattle.layout.specs.Spans.{runsWell}
 use Rattle.layout.proofs.ByteLaws.{back, body-back}
 use Rattle.layout.proofs.Held.{ladderOf, Held, Facts, held}
-use Rattle.register.proofs.Opens.{says-own}
-use Rattle.register.proofs.Well.{runs}
+use Rattle.layout.proofs.OpeningLaws.{says-own}
+use Rattle.layout.proofs.Running.{runs}
 use Rattle.calls.specs.Listing.{number, accepted}
 use Rattle.calls.specs.Answers.{numberAt, afterAt}
 use Rattle.history.specs.History.{History, blank, between, acceptedCall}
@@ -68,7 +68,7 @@ module _ (cal : List ℕ) where
     unfolding numberAt
     written-number passes k =
         let s = reached-stands R L (w .history) bs reached in
-        says-own cal bs passes (s .0) (number R k (regOf bs)) (s .1) ∙ ap (number R k) written-read
+        says-own R bs (number R k (regOf bs)) passes (s .0) (s .1) ∙ ap (number R k) written-read
 
     -- the register after an accepted call
     pub written-after : (k : Call) → numberAt R k bs ≡ 0 → Written cal (afterAt R k bs) (accepted R k r)
@@ -93,8 +93,7 @@ module _ (cal : List ℕ) where
     some-byte = ap allZero (w .bytes)
 
     pub written-runs : Runs cal bs
-    unfolding runsWell
-    written-runs = let s = reached-stands R L (w .history) bs (reached bs (running b) w) in (s .0, rw some-byte (s .1))
+    written-runs = let s = reached-stands R L (w .history) bs (reached bs (running b) w) in (s .0, some-byte, s .1)
 
 -- ---- a well-formed register is one that a history could tell
 waiting-grid : (R : Rules) (b : Body) (past ws : List (ℕ × ℕ)) → waitingOk R b past ws ≡ true
@@ -152,7 +151,7 @@ module _ (cal : List ℕ) (b : Body) (w : Facts (rules cal) b) where
   }
 
 pub run-written : (cal bs : List ℕ) → Runs cal bs → Written cal bs (running (bodyOf bs))
-unfolding bytesOf
+unfolding bytesOf runsWell
 run-written cal bs run =
-    let r = runs cal bs (run .1) in
+    let r = runs cal bs (and-i (ap not (run .1)) (run .2)) in
     record { history = teller cal (bodyOf bs) (r .well); agree = tells cal (bodyOf bs) (r .well); sound = sound-of cal (bodyOf bs) (r .well); bytes = r .written }

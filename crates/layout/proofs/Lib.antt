@@ -3,3 +3,4 @@ pub mod ByteLaws
 pub mod OpeningLaws
 pub mod SpanLaws
 pub mod Held
+pub mod Running

@@ -26,7 +26,8 @@ use Rattle.layout.specs.Bytes.{registerLength, placesBytes, rowsBytes, padded, 
 use Rattle.base.specs.Words.{two, at16}
 use Rattle.layout.proofs.ByteLaws.{places-length, rows-length, padded-length, places-count, rows-count}
 use Rattle.layout.proofs.Held.{Held, Facts}
-use Rattle.register.proofs.Well.{Running, run-keeps, run-first, run-held}
+use Rattle.layout.proofs.Running.{Running}
+use Rattle.register.proofs.Well.{run-keeps, run-first, run-held}
 use Rattle.ladders.specs.Writing.{rowsIn}
 use Rattle.ladders.proofs.Ladders.{rows-append}
 

@@ -33,7 +33,8 @@ use Rattle.layout.specs.Bytes.{registerLength, mostRows, rowsBytes, padded, byt
 use Rattle.base.specs.Words.{at16}
 use Rattle.layout.specs.Spans.{spansOf, spanIn}
 use Rattle.layout.proofs.RowLaws.{rowsOf-same, ladder-length}
-use Rattle.register.proofs.Well.{Running, run-first}
+use Rattle.layout.proofs.Running.{Running}
+use Rattle.register.proofs.Well.{run-first}
 use Rattle.layout.proofs.SpanLaws.{span-in}
 use Rattle.layout.proofs.Held.{Held, ladderOf, found, least-held, greatest-held}
 use Rattle.ladders.specs.declared.Plan.{Plan}

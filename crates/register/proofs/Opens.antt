@@ -24,7 +24,8 @@ use Rattle.layout.specs.Opening.{opened}
 use Rattle.layout.specs.Spans.{runsWell, spansOf, standingSpans}
 use Rattle.register.specs.Check.{openingCause, openingOf}
 use Rattle.layout.proofs.OpeningLaws.{says-calendar, says-14, says-15, Refused, Reads, reads-own, zero-status, no-status, stands-else, reads-empty, reads-running}
-use Rattle.register.proofs.Well.{Running, runs, runs-i, all-stand, standing-none, standing-some}
+use Rattle.layout.proofs.Running.{Running, runs, runs-i}
+use Rattle.register.proofs.Well.{all-stand, standing-none, standing-some}
 
 module _ (cal bs : List ℕ) where
   -- ---- the opening's causes

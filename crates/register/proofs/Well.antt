@@ -1,7 +1,7 @@
 -- A register stands where the scan of its bytes says so, and its spans are those that the scan finds.
 -- Assumes nothing.
 use mathlib.Core.Path.{_≡_, refl, sym, ap, _∙_}
-use mathlib.Core.Bool.{true, false, not, _&&_}
+use mathlib.Core.Bool.{true}
 use mathlib.Core.List.{List, [], _∷_, _++_}
 use mathlib.Core.Logic.{⊎-elim}
 use Prim.Native.Nat.{ℕ, zero, suc, _+_, _-_, _*_, _≤_, _<_}
@@ -10,9 +10,9 @@ use native.Mathlib.Omega.{arith}
 use lib.Dec.{leb}
 use lib.ListN.{length, getD, drop, replicate}
 use lib.Seq.{drop-drop, getD-drop}
-use borrow.Author.Tests.{le-leb, leb-true, not-true}
+use borrow.Author.Tests.{le-leb, leb-true}
 use Rattle.base.specs.Lists.{elem, select, within, least, greatest}
-use Rattle.base.proofs.Tests.{byBool, and-l, and-r, and-i}
+use Rattle.base.proofs.Tests.{byBool, and-l, and-r}
 use Rattle.base.proofs.ListLaws.{elem-here, within-r}
 use Rattle.calendar.specs.Calendar.{session}
 use Rattle.calendar.specs.Live.{firstLive, liveMonths, tierOf}
@@ -21,16 +21,16 @@ use Rattle.grid.proofs.Prices.{price-line}
 use Rattle.rules.specs.Rules.{lastFirstMonth}
 use Rattle.rules.specs.Rulebook.{rules, firstAt, tierAt}
 use Rattle.layout.specs.Rows.{newEntry, Row, row, rowsOf, pricesOf, entryOk}
-use Rattle.layout.specs.Register.{mostWaiting, Body, running, spanLow, spanHigh, sameKeys, nonEmpty, entriesOk, listed, waitingOk, wellFormed}
+use Rattle.layout.specs.Register.{mostWaiting, Body, spanLow, spanHigh, sameKeys, nonEmpty, entriesOk, listed, waitingOk}
 use Rattle.base.specs.Words.{at16}
-use Rattle.layout.specs.Bytes.{readRows, bodyOf, rowsBytes, bodyBytes, bytesOf, allZero, sameBytes, regOf, inLayout}
-use Rattle.layout.specs.Opening.{emptyOrWell, stands}
+use Rattle.layout.specs.Bytes.{readRows, bodyOf, rowsBytes}
 use Rattle.layout.specs.Spans.{noSpans, runsWell, spansOf, standingSpans}
 use Rattle.register.specs.Check.{Keeps}
 use Rattle.scan.specs.Scan.{rowAt, rowsAt, ladderSpans}
 use Rattle.layout.proofs.RowLaws.{rowsOf-same, all-some}
-use Rattle.layout.proofs.ByteLaws.{same-self, same-eq, places-count}
-use Rattle.layout.proofs.Held.{ladderOf, Held, there, least-held, greatest-held, Facts, facts, live-apart, held}
+use Rattle.layout.proofs.ByteLaws.{places-count}
+use Rattle.layout.proofs.Running.{Running, runs, runs-i}
+use Rattle.layout.proofs.Held.{ladderOf, Held, there, least-held, greatest-held, live-apart, held}
 use Rattle.base.proofs.WordLaws.{at16-drop}
 use Rattle.register.proofs.Kept.{EndsZero, layout-is, kept, rows-part}
 use Rattle.scan.proofs.Found.{blank, Found, find-ladders, held-found, spans-held}
@@ -61,45 +61,6 @@ module _ (bs : List ℕ) where
       let o = within-r 1 5 (at16 bs (at + 6)) (and-r (leb (at16 bs (at + 4)) day) _ e) in
       let z : getD (drop at bs) 7 0 ≡ 0 = omega (arith, origin-is at) in
       (z, rw (drop-drop 8 at bs) (ends-zero day n (at + 8) (and-r (entryOk day (rowAt bs at .entry)) _ k)))
-
--- ---- a register that runs and is well formed
-pub record Running (cal bs : List ℕ) : Type 0 where
-  pub written : bs ≡ bodyBytes (bodyOf bs)
-  pub well : Facts (rules cal) (bodyOf bs)
-
-module _ (cal bs : List ℕ) where
-  reg-is : allZero bs ≡ false → regOf bs ≡ running (bodyOf bs)
-  unfolding regOf
-  reg-is z = rw z
-
-  runs-opened : allZero bs ≡ false → stands (rules cal) bs ≡ (sameBytes bs (bodyBytes (bodyOf bs)) && wellFormed (rules cal) (bodyOf bs))
-  unfolding stands inLayout emptyOrWell bytesOf
-  runs-opened z = rw (reg-is z)
-
-  pub runs : runsWell cal bs ≡ true → Running cal bs
-  unfolding runsWell
-  runs h =
-      let z : allZero bs ≡ false = not-true (allZero bs) (and-l (not (allZero bs)) _ h) in
-      let g = sym (runs-opened z) ∙ and-r (not (allZero bs)) _ h in
-      record {
-        written = same-eq bs (bodyBytes (bodyOf bs)) (and-l (sameBytes bs (bodyBytes (bodyOf bs))) _ g);
-        well = facts (rules cal) (bodyOf bs) (and-r (sameBytes bs (bodyBytes (bodyOf bs))) _ g);
-      }
-
-  body-some : (b : Body) → allZero (bodyBytes b) ≡ false
-  unfolding allZero bodyBytes
-  body-some b = refl
-
-  well-formed : Facts (rules cal) (bodyOf bs) → wellFormed (rules cal) (bodyOf bs) ≡ true
-  unfolding wellFormed rules
-  well-formed w = and-i (w .session-day) (and-i (w .live) (and-i (w .keys) (and-i (w .some-row) (and-i (w .entries) (and-i (w .short) (w .waits))))))
-
-  pub runs-i : Running cal bs → runsWell cal bs ≡ true
-  unfolding runsWell
-  runs-i r =
-      let z : allZero bs ≡ false = ap allZero (r .written) ∙ body-some (bodyOf bs) in
-      let s : sameBytes bs (bodyBytes (bodyOf bs)) ≡ true = ap (sameBytes bs) (sym (r .written)) ∙ same-self bs in
-      rw z (runs-opened z ∙ and-i s (well-formed (r .well)))
 
 -- ---- what the scan finds of it
 module _ (cal bs : List ℕ) (l : length bs ≡ 11264) (r : Running cal bs) where

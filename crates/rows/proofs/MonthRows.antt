@@ -34,7 +34,8 @@ use Rattle.layout.proofs.ByteLaws.{rows-length}
 use Rattle.layout.proofs.Held.{ladderOf, Held}
 use Rattle.grid.proofs.Runs.{run-is}
 use Rattle.scan.proofs.Found.{Spanned, spanned}
-use Rattle.register.proofs.Well.{Running, runs, run-held, rows-behind}
+use Rattle.layout.proofs.Running.{Running, runs}
+use Rattle.register.proofs.Well.{run-held, rows-behind}
 use Rattle.layout.proofs.OpeningLaws.{none-opened, Refused, Reads, reads-own, refused-own, stands-else}
 use Rattle.layout.proofs.RowLaws.{ladder-length}
 

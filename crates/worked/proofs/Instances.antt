@@ -36,9 +36,12 @@ missing-friday : (session (replicate 1154 0 ++ (64 ∷ [])) 9239 ≡ false) × (
 unfolding session
 missing-friday = (refl, refl)
 
-live-in : (day f m : ℕ) (t : Tier) → firstLive everyDay day ≡ f → elem m (liveMonths f) ≡ true → tierOf f m ≡ t → LiveAs everyDay day m t
+can-start : (day : ℕ) → day ≤ 36524 → firstLive everyDay day ≤ 1190 → CanStart everyDay day
+can-start day l f = record { passes = every-day-passes; in-calendar = l; on-session = every-day-session day l; first-month = f }
+
+live-of : (day f m : ℕ) (t : Tier) → firstLive everyDay day ≡ f → elem m (liveMonths f) ≡ true → tierOf f m ≡ t → LiveAs everyDay day m t
 unfolding LiveAs
-live-in day f m t e a b = rw e (a, b)
+live-of day f m t e a b = rw e (a, b)
 
 -- ---- 16 and 17 November: the first live month is November
 first-16 : firstLive everyDay 9816 ≡ 322
@@ -50,29 +53,24 @@ next-16 = every-day-next 9816 (lit< tt)
 first-17 : firstLive everyDay 9817 ≡ 322
 first-17 = november-first 9817 (lit≤ tt) (lit≤ tt)
 
-can-start : CanStart everyDay 9816
-can-start = record {
-  passes = every-day-passes;
-  in-calendar = lit≤ tt;
-  on-session = every-day-session 9816 (lit≤ tt);
-  first-month = omega (arith, first-16);
-}
+start-16 : CanStart everyDay 9816
+start-16 = can-start 9816 (lit≤ tt) (omega (arith, first-16))
 
 near-16 : LiveAs everyDay 9816 322 N
 unfolding elem liveMonths tierOf
-near-16 = live-in 9816 322 322 N first-16 refl refl
+near-16 = live-of 9816 322 322 N first-16 refl refl
 
 middle-16 : LiveAs everyDay 9816 323 M
 unfolding elem liveMonths tierOf
-middle-16 = live-in 9816 322 323 M first-16 refl refl
+middle-16 = live-of 9816 322 323 M first-16 refl refl
 
 far-16 : LiveAs everyDay 9816 326 F
 unfolding elem liveMonths nextQuarter quarterly firstFrom tierOf
-far-16 = live-in 9816 322 326 F first-16 refl refl
+far-16 = live-of 9816 322 326 F first-16 refl refl
 
 middle-17 : LiveAs everyDay 9817 323 M
 unfolding elem liveMonths tierOf
-middle-17 = live-in 9817 322 323 M first-17 refl refl
+middle-17 = live-of 9817 322 323 M first-17 refl refl
 
 -- the register that a start leaves, and the session on the next day
 abbrev started : List ℕ
@@ -81,14 +79,15 @@ started = afterAt (rules everyDay) (start 9816 241337) emptyRegister
 can-move : CanMove everyDay started 9817
 unfolding closeTaken within bodyOf startBody
 can-move =
-    let w = start-written everyDay 9816 241337 can-start refl in
+    let w = start-written everyDay 9816 241337 start-16 refl in
     let b : Body = startBody (rules everyDay) (record { day = 9816 }) 241337 in
     let r = written-runs everyDay started b w in
     let day : at16 started 2 ≡ 9816 = ap (λ (b : Body). b .at .day) (written-body everyDay started b w) in
     record {
       passes = every-day-passes;
       size = r .0;
-      running = r .1;
+      not-empty = r .1;
+      well-formed = r .2;
       next-session = rw day (sym next-16);
       first-month = omega (arith, first-17);
     }
@@ -107,21 +106,16 @@ next-18 = every-day-next 9848 (lit< tt)
 first-19 : firstLive everyDay 9849 ≡ 324
 first-19 = every-day-later 9849 323 (lit< tt) (omega (arith, december .0)) (omega (arith, december .1)) (omega (arith, december .2)) (lit< tt)
 
-can-start-18 : CanStart everyDay 9848
-can-start-18 = record {
-  passes = every-day-passes;
-  in-calendar = lit≤ tt;
-  on-session = every-day-session 9848 (lit≤ tt);
-  first-month = omega (arith, first-18);
-}
+start-18 : CanStart everyDay 9848
+start-18 = can-start 9848 (lit≤ tt) (omega (arith, first-18))
 
 far-18 : LiveAs everyDay 9848 326 F
 unfolding elem liveMonths nextQuarter quarterly firstFrom tierOf
-far-18 = live-in 9848 323 326 F first-18 refl refl
+far-18 = live-of 9848 323 326 F first-18 refl refl
 
 middle-19 : LiveAs everyDay 9849 326 M
 unfolding elem liveMonths tierOf
-middle-19 = live-in 9849 324 326 M first-19 refl refl
+middle-19 = live-of 9849 324 326 M first-19 refl refl
 
 -- ---- the table
 pub met : EachMet table
@@ -132,21 +126,21 @@ met =
     & tt & tt
     & tt & tt
     & tt & tt
-    & (everyDay, 9816, 322, can-start, near-16) & (everyDay, 9816, 323, can-start, middle-16) & (everyDay, 9816, 326, can-start, far-16)
-    & (everyDay, 9816, can-start)
+    & (everyDay, 9816, 322, start-16, near-16) & (everyDay, 9816, 323, start-16, middle-16) & (everyDay, 9816, 326, start-16, far-16)
+    & (everyDay, 9816, start-16)
     & tt & tt & tt
     & tt & tt
     & tt & tt
-    & tt & (everyDay, 9816, 326, can-start, far-16) & both & both
-    & tt & (everyDay, 9816, 326, can-start, far-16) & both & both
-    & (everyDay, 9848, 326, can-start-18, rw next-18 (omega (arith, first-19)), far-18, rw next-18 middle-19)
+    & tt & (everyDay, 9816, 326, start-16, far-16) & both & both
+    & tt & (everyDay, 9816, 326, start-16, far-16) & both & both
+    & (everyDay, 9848, 326, start-18, rw next-18 (omega (arith, first-19)), far-18, rw next-18 middle-19)
     & stays
     & stays
     & tt & tt & tt
   where
     both : ((cal : List ℕ) × (day : ℕ) × CanStart cal day) × ((cal : List ℕ) × (bs : List ℕ) × (day : ℕ) × CanMove cal bs day)
-    both = ((everyDay, 9816, can-start), (everyDay, started, 9817, can-move))
+    both = ((everyDay, 9816, start-16), (everyDay, started, 9817, can-move))
 
     stays : (cal : List ℕ) × (day : ℕ) × (m : ℕ) × CanStart cal day
         × (firstLive cal (nextSession cal day) ≤ 1190) × LiveAs cal day m M × LiveAs cal (nextSession cal day) m M
-    stays = (everyDay, 9816, 323, can-start, rw next-16 (omega (arith, first-17)), middle-16, rw next-16 middle-17)
+    stays = (everyDay, 9816, 323, start-16, rw next-16 (omega (arith, first-17)), middle-16, rw next-16 middle-17)

@@ -21,5 +21,5 @@ pub returns-by : (c n : ℕ) → cause (not (closeTaken c)) 21 ≡ n → Holds (
 unfolding Holds
 returns-by c n e = (
   λ cal day s. start-returns cal day c s ∙ e,
-  λ cal bs day s. session-number cal bs (s .passes) (s .size, s .running) day c (s .next-session) (s .first-month) ∙ e,
+  λ cal bs day s. session-number cal bs (s .passes) (s .size, s .not-empty, s .well-formed) day c (s .next-session) (s .first-month) ∙ e,
 )

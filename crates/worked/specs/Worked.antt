@@ -20,7 +20,7 @@ use Rattle.calls.specs.Calls.{Call, start, session, announce}
 use Rattle.layout.specs.Rows.{Row, pricesOf}
 use Rattle.base.specs.Words.{at16}
 use Rattle.layout.specs.Bytes.{bodyOf, allZero}
-use Rattle.layout.specs.Spans.{runsWell}
+use Rattle.layout.specs.Opening.{stands}
 use Rattle.calls.specs.Answers.{numberAt, afterAt, listedAt}
 use Rattle.history.specs.Claim.{emptyRegister, finalAt, numbersAt}
 
@@ -57,11 +57,13 @@ pub record CanStart (cal : List ℕ) (day : ℕ) : Type 0 where
   pub on-session : hasSession cal day ≡ true
   pub first-month : firstLive cal day ≤ 1190
 
--- and against a session on a day: the bytes are a running register, and the day is the next session day after the one that it holds
+-- and against a session on a day: the bytes are a running register, in the layout and well formed, and the day is the next session day
+-- after the one that it holds
 pub record CanMove (cal bs : List ℕ) (day : ℕ) : Type 0 where
   pub passes : Passes cal
   pub size : length bs ≡ 11264
-  pub running : runsWell cal bs ≡ true
+  pub not-empty : allZero bs ≡ false
+  pub well-formed : stands (rules cal) bs ≡ true
   pub next-session : day ≡ nextSession cal (at16 bs 2)
   pub first-month : firstLive cal day ≤ 1190
 

@@ -5,7 +5,8 @@ use native.Mathlib.Omega.{arith}
 use borrow.Author.Needs.{needs}
 use Rattle.calendar.specs.Calendar.{nextSession}
 use Rattle.calendar.specs.Live.{firstLive}
-use Rattle.register.proofs.Well.{runs, run-first}
+use Rattle.layout.proofs.Running.{runs}
+use Rattle.register.proofs.Well.{run-first}
 use Rattle.calendar.proofs.LiveLaws.{live-top}
 use Rattle.announcing.proofs.Says.{day-in, few-wait, gathered, own-refusal, own-full, own-none}
 use Rattle.announcing.proofs.announce_cause.Statement.{statement}

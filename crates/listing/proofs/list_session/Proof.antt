@@ -11,7 +11,8 @@ use Rattle.calendar.specs.Live.{firstLive, liveMonths}
 use Rattle.layout.specs.Bytes.{registerLength, bodyOf}
 use Rattle.base.specs.Words.{at16}
 use Rattle.layout.specs.Spans.{spansOf}
-use Rattle.register.proofs.Well.{Running, runs, all-stand, run-keeps, run-first}
+use Rattle.layout.proofs.Running.{Running, runs}
+use Rattle.register.proofs.Well.{all-stand, run-keeps, run-first}
 use Rattle.listing.proofs.Starts.{close-low, close-high, day-in}
 use Rattle.listing.proofs.Before.{old, day-was}
 use Rattle.listing.proofs.Sessions.{TakenUp, up-ready, up-order, up-within, up-relisted, up-count, up-head}
