@@ -24,6 +24,15 @@ pub fn third_fridays_only() -> Calendar {
     bytes_of((0..MONTHS).map(third_friday))
 }
 
+/// In every month sessions only before the 15 days up to its third Friday; where there are no such
+/// days, on the first.
+pub fn early_days_only() -> Calendar {
+    bytes_of((0..MONTHS).flat_map(|month| {
+        let first = first_day(month);
+        first..(third_friday(month) - 14).max(first + 1)
+    }))
+}
+
 fn week_of_second_monday(month: u16) -> Range<u16> {
     let mut mondays = (first_day(month)..).filter(|day| day % 7 == 2);
     let second = mondays.nth(1).expect("a month has two Mondays");

@@ -30,6 +30,7 @@ fn main() {
             "check, third Fridays only",
             &calendars::third_fridays_only(),
         ),
+        check("check, early days only", &calendars::early_days_only()),
     ];
     rows.extend(calls::time_all());
     rows.extend(names::time_all());

@@ -61,6 +61,8 @@ Holidays: those of calendars/warsaw.txt, as the registers have them.
 Empty weeks: the same calendar without the sessions from the second Monday of
   every month to its Friday, so that with the weekends nine days have none.
 Third Fridays only: the one session of a window is at its end.
+Early days only: all sessions of a window lie before its last 15 days; where it has
+  no more days than these, on its first day.
 Year's replay: the demo's calls of a year from an empty register, by the session.";
 
 pub fn print(rows: &[Row]) {

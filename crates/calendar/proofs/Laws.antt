@@ -13,7 +13,8 @@ use borrow.Author.Tests.{lt-ltb, le-ltb, ltb-true, ltb-false, eq-eqb, ne-eqb, eq
 use Rattle.base.specs.Search.{firstIn, someIn}
 use Rattle.base.specs.Lists.{leastOf}
 use Rattle.base.specs.Causes.{cause, firstOf}
-use Rattle.base.proofs.SearchLaws.{first-end, first-skip, first-low, first-before, first-found, last-le, last-ge, some-wider, last-found}
+use Rattle.base.proofs.Tests.{byBool, byLe, or-l, or-r}
+use Rattle.base.proofs.SearchLaws.{first-end, first-miss, first-skip, first-low, first-before, first-found, last-le, last-ge, some-at, some-wider, last-found}
 use Rattle.base.proofs.CauseLaws.{none-of, not-cause, passed}
 use Rattle.dates.specs.Months.{monthCount, dayCount, firstDay, thirdFriday}
 use Rattle.dates.proofs.Laws.{first-day-mono, third-friday-rule, third-friday-before, third-friday-below}
@@ -51,21 +52,36 @@ tail-clear cal u =
     let b = getD cal 4565 0 in
     rw (ne-eqb (b / 32 % 2) 1 (omega arith), ne-eqb (b / 64 % 2) 1 (omega arith), ne-eqb (b / 128 % 2) 1 (omega arith))
 
+-- ---- a stretch in parts: cut at b, and by its first number
+or-none : (x y : Bool) → y ≡ false → x ≡ (x || y)
+or-none true y h = refl
+or-none false y h = sym h
+
+some-split : (p : ℕ → Bool) (a b c : ℕ) → a ≤ b → b ≤ c → someIn p a c ≡ (someIn p b c || someIn p a b)
+some-split p a b c h g =
+    byLe b (firstIn p a b)
+    (λ l. rw (first-skip p a b c h g (λ j x y. first-before p a b j x (omega arith))) (or-none _ _ (le-ltb (firstIn p a b) b l)))
+    (λ l. let s = lt-ltb (firstIn p a b) b l in some-wider p a b a c (omega arith) g s ∙ sym (or-r (someIn p b c) _ s))
+
+pub some-first : (p : ℕ → Bool) (a b : ℕ) → a < b → someIn p a b ≡ (p a || someIn p (a + 1) b)
+some-first p a b h =
+    byBool (p a)
+    (λ t. some-at p a b a (omega arith) h t ∙ sym (or-l _ _ t))
+    (λ f. rw (first-miss p a b h f, f))
+
+pub some-empty : (p : ℕ → Bool) (a b : ℕ) → b ≤ a → someIn p a b ≡ false
+some-empty p a b h = le-ltb (firstIn p a b) b (omega (arith, first-low p a b))
+
 -- ---- a month's session
 -- a month has it where a stretch of its days up to the third Friday has a session
 pub lacks-not : (cal : List ℕ) (m a b : ℕ) → firstDay m ≤ a → b ≤ thirdFriday m + 1 → someIn (session cal) a b ≡ true → lacks cal m ≡ false
 unfolding lacks
 lacks-not cal m a b l u s = ap not (some-wider (session cal) a b (firstDay m) (thirdFriday m + 1) l u s)
 
--- by where the search of these days ends
-module _ (cal : List ℕ) (m k : ℕ) (e : firstIn (session cal) (firstDay m) (thirdFriday m + 1) ≡ k) where
-  pub lacks-found : k ≤ thirdFriday m → lacks cal m ≡ false
-  unfolding lacks
-  lacks-found h = rw (e, lt-ltb k (thirdFriday m + 1) (omega arith))
-
-  pub lacks-none : thirdFriday m < k → lacks cal m ≡ true
-  unfolding lacks
-  lacks-none h = rw (e, le-ltb k (thirdFriday m + 1) (omega arith))
+-- by its last 15 of these days and by those before them
+pub lacks-parts : (cal : List ℕ) (m : ℕ) → lacks cal m ≡ not (someIn (session cal) (thirdFriday m - 14) (thirdFriday m + 1) || someIn (session cal) (firstDay m) (thirdFriday m - 14))
+unfolding lacks
+lacks-parts cal m = ap not (some-split (session cal) (firstDay m) (thirdFriday m - 14) (thirdFriday m + 1) (omega (arith, third-friday-rule m .from)) (omega arith))
 
 module _ (cal : List ℕ) (bytes : (i : ℕ) → getD cal i 0 < 256) where
   -- a byte that is not zero gives it, where the byte's days all lie there

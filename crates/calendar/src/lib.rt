@@ -62,13 +62,13 @@ fn recent_session(calendar: &[u8], last: u16) -> bool
     0 < (days >> (last % 16)) / 4 % 32768
 }
 
-// The first month from `from` on that has no session in the 15 days up to its third Friday; 1,200 where each has one.
-// No month that it passes lacks its session. The loop stands alone so that nothing of the scan of days is counted in it.
-fn next_quiet(calendar: &[u8], fridays: &[u16; 1200], from: u16) -> u16
-    requires { ⌜ (length (now calendar) ≡ calendarLength) × ThirdFridays (now fridays) × (from ≤ monthCount) ⌝ }
-    ensures { λ r. ⌜ (from ≤ r) × (r ≤ monthCount) × (firstIn (lacks (now (calendar .entry))) from monthCount ≡ firstIn (lacks (now (calendar .entry))) r monthCount) ⌝ }
+// The first month that has no session in the 15 days up to its third Friday; 1,200 where each has one.
+// No month before it lacks its session. The compiler takes two months a turn, since no scan of days stands in this loop.
+fn first_quiet(calendar: &[u8], fridays: &[u16; 1200]) -> u16
+    requires { ⌜ (length (now calendar) ≡ calendarLength) × ThirdFridays (now fridays) ⌝ }
+    ensures { λ r. ⌜ (r ≤ monthCount) × (firstLacking (now (calendar .entry)) ≡ firstIn (lacks (now (calendar .entry))) r monthCount) ⌝ }
 {
-    let mut month = from;
+    let mut month: u16 = 0;
     while month < MONTHS {
         if !recent_session(calendar, fridays[month as usize]) {
             return month;
@@ -79,22 +79,25 @@ fn next_quiet(calendar: &[u8], fridays: &[u16; 1200], from: u16) -> u16
 }
 
 // The first month that has no session from its first day to its third Friday; 1,200 where each has one.
-// Both scans, of months and of days, are left at that month. The last 15 of these days are looked at together first.
+// Both scans, of months and of days, are left at that month. The last 15 of a month's days are looked at together, the
+// days before them one by one.
 fn scan_months(calendar: &[u8], fridays: &[u16; 1200]) -> u16
     requires { ⌜ (length (now calendar) ≡ calendarLength) × ThirdFridays (now fridays) ⌝ }
     ensures { λ r. ⌜ r ≡ firstLacking (now (calendar .entry)) ⌝ }
 {
-    let mut month = next_quiet(calendar, fridays, 0);
+    let mut month = first_quiet(calendar, fridays);
     'months: while month < MONTHS {
         let last = fridays[month as usize];
         let mut day = dates::first_day(month);
-        while !has_session(calendar, day) {
-            if day == last {
+        let mut found = recent_session(calendar, last);
+        while !found {
+            if day + 14 == last {
                 break 'months;
             }
+            found = has_session(calendar, day);
             day += 1;
         }
-        month = next_quiet(calendar, fridays, month + 1);
+        month += 1;
     }
     month
 }

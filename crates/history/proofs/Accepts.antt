@@ -60,7 +60,7 @@ module _ (cal : List ℕ) (passes : Passes cal) (d c : ℕ) (hd : d ≤ 36524) (
       ∙ alone (cause (not (closeTaken c)) 21)
 
   pub start-number : numberAt (rules cal) (start d c) emptyRegister ≡ cause (not (closeTaken c)) 21
-  unfolding numberAt
+  unfolding numberAt rules
   start-number =
       let s = empty-stands cal in
       says-own (rules cal) emptyRegister (number (rules cal) (start d c) (regOf emptyRegister)) passes (s .0) (s .1)
@@ -92,6 +92,7 @@ module _ (cal bs : List ℕ) where
 
   module _ (passes : Passes cal) (run : Runs cal bs) where
     says : (own : ℕ) → opened (rules cal) bs own ≡ own
+    unfolding rules
     says own = says-own (rules cal) bs own passes (run .0) (run .2)
 
     -- bytes 2–3 hold the day

@@ -65,7 +65,7 @@ module _ (cal : List ℕ) where
 
     -- the number at the bytes
     pub written-number : Passes cal → (k : Call) → numberAt R k bs ≡ number R k r
-    unfolding numberAt
+    unfolding numberAt rules
     written-number passes k =
         let s = reached-stands R L (w .history) bs reached in
         says-own R bs (number R k (regOf bs)) passes (s .0) (s .1) ∙ ap (number R k) written-read

@@ -1,4 +1,4 @@
--- `calendar::next_quiet` meets its contract. The loop keeps what is ensured, of the month where it stands: each month that it passes has its session.
+-- `calendar::first_quiet` meets its contract. The loop keeps what is ensured, of the month where it stands: each month that it passes has its session.
 -- Assumes nothing.
 use mathlib.Core.Path.{_≡_, refl, sym, _∙_}
 use Prim.Native.Nat.{_-_, _≤_}
@@ -9,20 +9,20 @@ use Rattle.base.specs.Search.{firstIn}
 use Rattle.base.proofs.SearchLaws.{first-miss}
 use Rattle.dates.specs.Months.{monthCount}
 use Rattle.dates.proofs.Laws.{third-friday-is, third-friday-rule, third-friday-below}
-use Rattle.calendar.specs.Calendar.{lacks}
+use Rattle.calendar.specs.Calendar.{lacks, firstLacking}
 use Rattle.calendar.proofs.Laws.{lacks-not}
-use Rattle.calendar.proofs.next_quiet.Statement.{statement}
-use Rattle.calendar.proofs.next_quiet.Tie as tie
+use Rattle.calendar.proofs.first_quiet.Statement.{statement}
+use Rattle.calendar.proofs.first_quiet.Tie as tie
 
 abbrev Inv-loop : tie.InvT-loop
-Inv-loop cal fridays from month₀ month =
-    (from ≤ month) × (month ≤ monthCount) × (firstIn (lacks cal) from monthCount ≡ firstIn (lacks cal) month monthCount)
+Inv-loop cal fridays month₀ month = (month ≤ monthCount) × (firstLacking cal ≡ firstIn (lacks cal) month monthCount)
 
 abbrev μ-loop : tie.MeasureT-loop
-μ-loop cal fridays from month₀ month = monthCount - month
+μ-loop cal fridays month₀ month = monthCount - month
 
 loop-holds : tie.Need-loop-holds Inv-loop μ-loop
-loop-holds c = (omega arith, omega arith, refl)
+unfolding firstLacking
+loop-holds c = (omega arith, refl)
 
 cast-recent-session : tie.Need-cast-recent-session Inv-loop μ-loop
 cast-recent-session c = omega arith
@@ -55,13 +55,13 @@ loop-again c =
     let last = turn .before .before .before .pre .1 .each m (turn .loop-test .taken) in
     let recent = sym (c .before .recent-session .ensures) ∙ not-false _ (c .if1 .left) in
     let has = lacks-not _ m _ _ (omega (arith, last, third-friday-rule m .from)) (omega (arith, last)) recent in
-    (omega arith, omega arith, turn .before .loop .inv .2 ∙ first-miss _ _ _ (turn .loop-test .taken) has)
+    (omega arith, turn .before .loop .inv .1 ∙ first-miss _ _ _ (turn .loop-test .taken) has)
 
 returns-2 : tie.Need-returns-2 Inv-loop μ-loop
 returns-2 c = search needs
 
-pub next-quiet-spec : {M : Type 1} → statement M
-next-quiet-spec =
+pub first-quiet-spec : {M : Type 1} → statement M
+first-quiet-spec =
     tie.close
     (tie.spec
     Inv-loop
