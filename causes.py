@@ -12,7 +12,7 @@ from configparser import ConfigParser
 from configparser import Error as ParserError
 from pathlib import Path
 from textwrap import wrap
-from typing import Callable, Dict, List, NamedTuple, Optional, Tuple
+from typing import Callable, Dict, List, NamedTuple, Optional, Set, Tuple
 
 ROOT = Path(__file__).resolve().parent
 TABLE = "causes.txt"
@@ -123,7 +123,7 @@ def read_value(section: str, line: str) -> Value:
     return Value(*value.groups())
 
 
-def read_call(name: str, text: str, known: set) -> Call:
+def read_call(name: str, text: str, known: Set[int]) -> Call:
     if not re.fullmatch(r"[a-z_]+", name) or re.search(r"[.:*]", text):
         raise Wrong(f"{TABLE}: {name} is no call, or its line has more than one sentence")
     numbers: List[int] = []
@@ -171,9 +171,8 @@ def header(table: Table, text: str) -> str:
     )
     for call in table.calls:
         text = header_call(call, text)
-    numbered = re.findall(r"Numbers:", text)
-    if len(numbered) != len(table.calls):
-        raise Wrong("the header tells the numbers of a call that is not in the table")
+    if text.count("Numbers:") != len(table.calls):
+        raise Wrong(f"the header tells the numbers of a call that {TABLE} does not have")
     return text
 
 
@@ -191,7 +190,7 @@ def header_call(call: Call, text: str) -> str:
 
     name = f"sindhopul_{call.name}"
     return replaced_once(
-        f"{name} with its comment in the header",
+        f"the comment of {name} in the header",
         rf"/\* ((?:(?!\*/).)*) \*/\n(\w+ {name}\()",
         comment,
         text,
@@ -522,7 +521,7 @@ def made() -> List[Tuple[str, str, str]]:
     return texts
 
 
-def main(arguments: List[str]) -> int:
+def main(arguments: List[str]) -> None:
     if arguments not in ([], ["--check"]):
         sys.exit(__doc__)
     try:
@@ -531,16 +530,13 @@ def main(arguments: List[str]) -> int:
         sys.exit(f"causes.py: {wrong}")
     for path, old, new in changed:
         if arguments:
-            lines = difflib.unified_diff(
-                old.splitlines(True), new.splitlines(True), path, f"{path} by {TABLE}"
-            )
-            sys.stderr.writelines(lines)
+            lines = old.splitlines(True), new.splitlines(True)
+            sys.stderr.writelines(difflib.unified_diff(*lines, path, f"{path} by {TABLE}"))
         else:
             (ROOT / path).write_text(new)
             print(path)
     if arguments and changed:
-        sys.exit(f"causes.py: {len(changed)} files differ from {TABLE}: edit that, then run ./causes.py")
-    return 0
+        sys.exit(f"causes.py: {TABLE} says something else: edit {TABLE}, then run ./causes.py")
 
 
 if __name__ == "__main__":
