@@ -14,15 +14,13 @@ use Rattle.base.proofs.CauseLaws.{caused, passed, decides, alone}
 use Rattle.dates.specs.Months.{dayCount}
 use Rattle.calendar.specs.declared.Checked.{Checked}
 use Rattle.calendar.specs.Calendar.{session, calendarCause, firstLacking, Passes}
-use Rattle.calendar.specs.Live.{firstLive}
 use Rattle.grid.specs.Grid.{closeTaken}
 use Rattle.rules.specs.Rules.{Rules, lastFirstMonth}
-use Rattle.rules.specs.Rulebook.{rules}
+use Rattle.rules.specs.Rulebook.{begun, firstAt, rules}
 use Rattle.calls.specs.Calls as Call
 use Rattle.calls.specs.Calls.{Call}
 use Rattle.layout.specs.Register.{empty, running}
-use Rattle.layout.specs.Bytes.{registerLength, bodyBytes, bytesOf, bodyOf, allZero, regOf, sameBytes, inLayout}
-use Rattle.base.specs.Words.{at16}
+use Rattle.layout.specs.Bytes.{registerLength, bodyBytes, bytesOf, momentOf, bodyOf, allZero, regOf, sameBytes, inLayout}
 use Rattle.register.specs.Check.{openingCause, openingOf}
 use Rattle.layout.specs.Opening.{emptyOrWell, stands, opened}
 use Rattle.layout.specs.Spans.{runsWell, standingSpans}
@@ -152,7 +150,7 @@ module _ (cal bs : List ℕ) (day close : ℕ) where
     start-refused n e h = refused-as cal bs (Call.start day close) n 0 (on-empty cal bs (Call.start day close) p l z ∙ sym e) h (start-month ∙ rw (← e))
 
     pub start-accepted : number (rules cal) (Call.start day close) empty ≡ 0 → (r : Listed) (out : List ℕ)
-        → r ≡ answer (rules cal) empty (running (startBody (rules cal) (record { day = day }) close)) → out ≡ bytesOf (running (startBody (rules cal) (record { day = day }) close))
+        → r ≡ answer (rules cal) empty (running (startBody (rules cal) (begun day) close)) → out ≡ bytesOf (running (startBody (rules cal) (begun day) close))
         → (r ≡ listedAt cal (Call.start day close) bs) × (out ≡ afterAt (rules cal) (Call.start day close) bs)
     unfolding regOf accepted rules
     start-accepted e r out a o =
@@ -174,7 +172,7 @@ module _ (cal bs : List ℕ) (l : length bs ≡ registerLength) (spans : List (L
   unfolding standingSpans
   fell z =
       byBool (runsWell cal bs)
-      (λ w. absurd (first-low (firstLive cal (at16 bs 2)) (bodyOf bs) (run-held cal bs l (runs cal bs w)) (rw (e, w) at z)))
+      (λ w. absurd (first-low (firstAt cal (momentOf bs)) (bodyOf bs) (run-held cal bs l (runs cal bs w)) (rw (e, w) at z)))
       (λ w. w)
 
 -- a call on a register that neither runs nor is empty
@@ -195,7 +193,7 @@ module _ (cal bs : List ℕ) (day close : ℕ) (p : Passes cal) (l : length bs �
   pub session-accepted : number (rules cal) (Call.session day close) (running (bodyOf bs)) ≡ 0 → (r : Listed) (out : List ℕ)
       → r ≡ answer (rules cal) (running (bodyOf bs)) (running (sessionOf cal bs day close)) → out ≡ bytesOf (running (sessionOf cal bs day close))
       → (r ≡ listedAt cal (Call.session day close) bs) × (out ≡ afterAt (rules cal) (Call.session day close) bs)
-  unfolding accepted rules
+  unfolding accepted rules bodyOf
   session-accepted e r out a o =
       let k = on-running cal bs (Call.session day close) p l w in
       accepted-as cal bs (Call.session day close) (k .0 ∙ e) r out (a ∙ sym (rw (k .1))) (o ∙ sym (rw (k .1)))

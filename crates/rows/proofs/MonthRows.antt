@@ -17,7 +17,7 @@ use Rattle.base.proofs.Tests.{byBool, or-e, or-fl, or-fr}
 use Rattle.base.proofs.CauseLaws.{none-of, not-cause, alone}
 use Rattle.base.proofs.ListLaws.{elem-here, elem-there}
 use Rattle.base.proofs.Rising.{rises, rises-head, rises-tail, rises-all, risesAll}
-use Rattle.calendar.specs.Live.{firstLive, liveMonths, tierOf}
+use Rattle.calendar.specs.Live.{liveMonths, tierOf}
 use Rattle.grid.specs.Numbers.{numberOf, stride}
 use Rattle.grid.proofs.Prices.{number-price}
 use Rattle.grid.proofs.Grids.{prices-length}
@@ -25,8 +25,8 @@ use Rattle.rules.specs.Rulebook.{rules, firstAt}
 use Rattle.rules.proofs.RulebookLaws.{live-rises}
 use Rattle.layout.specs.Rows.{Entry, Row, row, ladder, rowsOf}
 use Rattle.layout.specs.Register.{Body, spanLow, spanHigh}
-use Rattle.layout.specs.Bytes.{registerLength, rowsBytes, bodyOf, allZero, regOf}
-use Rattle.base.specs.Words.{two, at16}
+use Rattle.layout.specs.Bytes.{registerLength, rowsBytes, momentOf, bodyOf, allZero, regOf}
+use Rattle.base.specs.Words.{two}
 use Rattle.calls.specs.RowsCall.{monthRows, earlierRows, rowsCause, rowsNumber, rowsPart, rowsPlace}
 use Rattle.layout.specs.Opening.{stands, opened}
 use Rattle.layout.specs.Spans.{runsWell, spansOf}
@@ -194,9 +194,9 @@ module _ (cal bs : List ℕ) (m : ℕ) where
   unfolding rowsCause regOf
   own-empty z = rw z
 
-  own-running : allZero bs ≡ false → rowsCause (rules cal) m (regOf bs) ≡ cause (not (elem m (liveMonths (firstLive cal (at16 bs 2))))) 26
-  unfolding rowsCause regOf rules firstAt bodyOf
-  own-running z = rw z (alone (cause (not (elem m (liveMonths (firstLive cal (at16 bs 2))))) 26))
+  own-running : allZero bs ≡ false → rowsCause (rules cal) m (regOf bs) ≡ cause (not (elem m (liveMonths (firstAt cal (momentOf bs))))) 26
+  unfolding rowsCause regOf rules bodyOf
+  own-running z = rw z (alone (cause (not (elem m (liveMonths (firstAt cal (momentOf bs))))) 26))
 
   -- it says what it opens with
   pub rows-open : (openingCause cal bs ≡ 0 → ⊥) → noRows (openingCause cal bs) ≡ rowsPlace (rules cal) bs m
@@ -215,16 +215,16 @@ module _ (cal bs : List ℕ) (m : ℕ) where
         refuses 15 (sym (says-15 cal bs (k .0) (k .1) (rowsCause (rules cal) m (regOf bs)) (stands-else cal bs some ∙ ill))) (λ z. omega arith)
 
     module _ (r : Running cal bs) where
-      number-is : rowsNumber (rules cal) bs m ≡ cause (not (elem m (liveMonths (firstLive cal (at16 bs 2))))) 26
+      number-is : rowsNumber (rules cal) bs m ≡ cause (not (elem m (liveMonths (firstAt cal (momentOf bs))))) 26
       unfolding rowsNumber
       number-is =
           let k = opens cal bs o in
           says-own cal bs (k .0) (k .1) (rowsCause (rules cal) m (regOf bs)) (stands-else cal bs some ∙ runs-i cal bs r) ∙ own-running some
 
-      pub rows-placed : let f = firstLive cal (at16 bs 2) in monthPlace f m 136 (liveMonths f) (spansOf (bodyOf bs) (liveMonths f)) ≡ rowsPlace (rules cal) bs m
+      pub rows-placed : let f = firstAt cal (momentOf bs) in monthPlace f m 136 (liveMonths f) (spansOf (bodyOf bs) (liveMonths f)) ≡ rowsPlace (rules cal) bs m
       unfolding rowsPlace cause
       rows-placed =
-          let f : ℕ = firstLive cal (at16 bs 2) in
+          let f : ℕ = firstAt cal (momentOf bs) in
           let b : Body = bodyOf bs in
           let h = run-held cal bs (opens cal bs o .1) r in
           byBool (elem m (liveMonths f))
@@ -236,7 +236,7 @@ module _ (cal bs : List ℕ) (m : ℕ) where
   -- ---- what lies at that place
 
   -- where the number is 0 the register runs and the month is live
-  accepted : rowsNumber (rules cal) bs m ≡ 0 → (length bs ≡ registerLength) × Running cal bs × (elem m (liveMonths (firstLive cal (at16 bs 2))) ≡ true)
+  accepted : rowsNumber (rules cal) bs m ≡ 0 → (length bs ≡ registerLength) × Running cal bs × (elem m (liveMonths (firstAt cal (momentOf bs))) ≡ true)
   unfolding rowsNumber opened
   accepted h =
       let z = none-of _ _ h in
@@ -247,7 +247,7 @@ module _ (cal bs : List ℕ) (m : ℕ) where
       let s = not-false _ (not-cause (not (stands (rules cal) bs)) 14 (x .0)) in
       byBool (allZero bs)
       (λ t. absurd (omega (arith, own-empty t)))
-      (λ t. (l, runs cal bs (sym (stands-else cal bs t) ∙ s), not-false _ (not-cause (not (elem m (liveMonths (firstLive cal (at16 bs 2))))) 25 (sym (own-running t) ∙ own))))
+      (λ t. (l, runs cal bs (sym (stands-else cal bs t) ∙ s), not-false _ (not-cause (not (elem m (liveMonths (firstAt cal (momentOf bs))))) 25 (sym (own-running t) ∙ own))))
 
   -- behind the rows of the months before stand the month's rows, and they end inside the register
   record There : Type 0 where
@@ -258,7 +258,7 @@ module _ (cal bs : List ℕ) (m : ℕ) where
   there : rowsNumber (rules cal) bs m ≡ 0 → There
   there z =
       let k = accepted z in
-      let f : ℕ = firstLive cal (at16 bs 2) in
+      let f : ℕ = firstAt cal (momentOf bs) in
       let h = run-held cal bs (k .0) (k .1) in
       let rs : List Row = bodyOf bs .rows in
       let zeros : List ℕ = replicate (11128 - length (rowsBytes rs)) 0 in

@@ -9,10 +9,12 @@ use lib.Dec.{eqb}
 use Rattle.base.specs.Lists.{elem, select, within, least, greatest, leastOf, greatestOf}
 use Rattle.base.specs.declared.Tier.{Tier}
 use Rattle.base.proofs.Tests.{byBool, eqb-self}
+use Rattle.calendar.specs.Calendar.{expiryOf}
 use Rattle.calendar.specs.Live.{firstLive, liveMonths}
 use Rattle.grid.specs.Grid.{gridOf, requiredLow, requiredHigh}
 use Rattle.rules.specs.Rules.{Rules, Moment}
-use Rattle.rules.specs.Rulebook.{firstAt, tierAt, rules}
+use Rattle.rules.specs.Rulebook as Rulebook
+use Rattle.rules.specs.Rulebook.{expiryAt, firstAt, tierAt, rules}
 use Rattle.calls.specs.Calls.{start, announce}
 use Rattle.layout.specs.Rows.{newEntry, Row, find, pricesOf}
 use Rattle.layout.specs.Register.{Body, empty, running, waitingOf, spanLow, spanHigh, listed}
@@ -44,15 +46,15 @@ module _ (t u : Tier) (c d : ℕ) where
 
 -- the register after a start, where some prices wait
 abbrev body : List ℕ → ℕ → ℕ → List (ℕ × ℕ) → Body
-body cal day c waiting = record { at = record { day = day }; waiting = waiting; rows = begun cal day c }
+body cal day c waiting = record { at = rules cal .begin day; waiting = waiting; rows = begun cal day c }
 
 module _ (cal : List ℕ) (day c m : ℕ) (t : Tier) (live : LiveAs cal day m t) where
   abbrev R : Rules
   R = rules cal
 
   start-find : (p : ℕ) → find m p (begun cal day c) ≡ cond (elem p (startPrices c t)) (some (newEntry day 5)) none
-  unfolding LiveAs startBody rules firstAt tierAt listed
-  start-find p = find-rowsOf m p (liveMonths (firstLive cal day)) _ (λ m p. newEntry day 5) ∙ rw (live .0, live .1)
+  unfolding LiveAs startBody rules Rulebook.begun firstAt expiryAt tierAt listed
+  start-find p = find-rowsOf m p (liveMonths (firstLive (expiryOf cal) day)) _ (λ m p. newEntry day 5) ∙ rw (live .0, live .1)
 
   -- a session on another day, where some prices wait for the month
   module _ (waiting : List (ℕ × ℕ)) (ps : List ℕ) (wait : waitingOf m waiting ≡ ps) (later d : ℕ) (u : Tier) (still : LiveAs cal later m u) where
@@ -60,22 +62,22 @@ module _ (cal : List ℕ) (day c m : ℕ) (t : Tier) (live : LiveAs cal day m t)
     b = body cal day c waiting
 
     abbrev y : Moment
-    y = record { day = later }
+    y = R .move (b .at) later
 
     close-low : closeLow R b y d m ≡ low t u c d
-    unfolding LiveAs closeLow spanLow rules firstAt tierAt low
+    unfolding LiveAs closeLow spanLow rules Rulebook.moved firstAt expiryAt tierAt low
     close-low = rw (start-prices cal day c m t live, still .1)
 
     close-high : closeHigh R b y d m ≡ high t u c d
-    unfolding LiveAs closeHigh spanHigh rules firstAt tierAt high
+    unfolding LiveAs closeHigh spanHigh rules Rulebook.moved firstAt expiryAt tierAt high
     close-high = rw (start-prices cal day c m t live, still .1)
 
     new-prices : listed R y (newLow R b y d) (newHigh R b y d) m ≡ prices t u c d ps
-    unfolding LiveAs listed newLow newHigh rules firstAt tierAt prices
+    unfolding LiveAs listed newLow newHigh rules Rulebook.begun Rulebook.moved firstAt expiryAt tierAt prices
     new-prices = rw (live .0, close-low, close-high, wait, still .1)
 
     new-origin : (p : ℕ) → kept (find m p (begun cal day c)) (newEntry later (newOrigin R b y d m p)) .origin ≡ origin t u c d p
-    unfolding LiveAs newOrigin spanLow spanHigh rules firstAt kept origin
+    unfolding LiveAs newOrigin spanLow spanHigh rules Rulebook.begun firstAt expiryAt kept origin
     new-origin p =
         byBool (elem p (startPrices c t))
         (λ e. rw (start-find p, e))
@@ -85,14 +87,14 @@ module _ (cal : List ℕ) (day c m : ℕ) (t : Tier) (live : LiveAs cal day m t)
     relisted = sessionBody R b y d .rows
 
     pub session-prices : pricesOf m relisted ≡ prices t u c d ps
-    unfolding LiveAs sessionBody rules firstAt
-    session-prices = month-prices m _ _ (liveMonths (firstLive cal later)) (live-apart (firstLive cal later)) (still .0) ∙ new-prices
+    unfolding LiveAs sessionBody rules Rulebook.moved firstAt expiryAt
+    session-prices = month-prices m _ _ (liveMonths (firstLive (expiryOf cal) later)) (live-apart (firstLive (expiryOf cal) later)) (still .0) ∙ new-prices
 
     pub session-origin : (o : ℕ) → pricesOf m (ofOrigin o relisted) ≡ select (λ p. eqb (origin t u c d p) o) (prices t u c d ps)
-    unfolding LiveAs sessionBody rules firstAt
+    unfolding LiveAs sessionBody rules Rulebook.moved firstAt expiryAt
     session-origin o =
-        ap (pricesOf m) (origin-rows o (liveMonths (firstLive cal later)) _ _)
-        ∙ month-prices m _ _ (liveMonths (firstLive cal later)) (live-apart (firstLive cal later)) (still .0)
+        ap (pricesOf m) (origin-rows o (liveMonths (firstLive (expiryOf cal) later)) _ _)
+        ∙ month-prices m _ _ (liveMonths (firstLive (expiryOf cal) later)) (live-apart (firstLive (expiryOf cal) later)) (still .0)
         ∙ simp (new-prices, new-origin)
 
 -- ---- the prices announced for a month wait for it
@@ -113,7 +115,7 @@ announced R x rows m past (p ∷ ps) = announced R x rows m (past ++ ((m, p) ∷
 begun-announced : (cal : List ℕ) (day c m : ℕ) (ps : List ℕ)
     → after (rules cal) (start day c ∷ map (announce m) ps) empty ≡ running (body cal day c (waits m ps))
 unfolding after accepted startBody rules
-begun-announced cal day c m ps = announced (rules cal) (record { day = day }) (begun cal day c) m [] ps
+begun-announced cal day c m ps = announced (rules cal) (rules cal .begin day) (begun cal day c) m [] ps
 
 -- so a line that holds of the tiers holds
 pub relists-by : (t u : Tier) (c : ℕ) (ps : List ℕ) (d : ℕ) (old new : Reach) (o : ℕ) (these : Reach)

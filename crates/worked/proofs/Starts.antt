@@ -9,10 +9,12 @@ use Rattle.base.specs.Lists.{select, within}
 use Rattle.base.specs.declared.Tier.{Tier}
 use Rattle.base.specs.declared.Tier.the-variants.{N, M, F}
 use Rattle.base.proofs.Tests.{eqb-self}
+use Rattle.calendar.specs.Calendar.{expiryOf}
 use Rattle.calendar.specs.Live.{firstLive, liveMonths, tierOf}
 use Rattle.calendar.proofs.LiveLaws.{live-tiers}
 use Rattle.grid.specs.Grid.{gridOf, requiredLow, requiredHigh}
-use Rattle.rules.specs.Rulebook.{firstAt, tierAt, rules}
+use Rattle.rules.specs.Rulebook as Rulebook
+use Rattle.rules.specs.Rulebook.{expiryAt, firstAt, tierAt, rules}
 use Rattle.calls.specs.Calls.{start}
 use Rattle.layout.specs.Rows.{Entry, newEntry, Row, ladder, rowsOf, pricesOf}
 use Rattle.layout.specs.Register.{Reg, empty, running, listed}
@@ -59,12 +61,12 @@ module _ (d o : ℕ) where
 
 -- the rows of a start
 abbrev pub begun : List ℕ → ℕ → ℕ → List Row
-begun cal day c = startBody (rules cal) (record { day = day }) c .rows
+begun cal day c = startBody (rules cal) (rules cal .begin day) c .rows
 
 pub start-prices : (cal : List ℕ) (day c m : ℕ) (t : Tier) → LiveAs cal day m t → pricesOf m (begun cal day c) ≡ startPrices c t
-unfolding LiveAs startBody rules firstAt tierAt listed
+unfolding LiveAs startBody rules Rulebook.begun firstAt expiryAt tierAt listed
 start-prices cal day c m t live =
-    let f : ℕ = firstLive cal day in
+    let f : ℕ = firstLive (expiryOf cal) day in
     month-prices m _ (λ m p. newEntry day 5) (liveMonths f) (live-apart f) (live .0) ∙ rw (live .1)
 
 -- the six live months' tiers, whatever the calendar and the day
@@ -73,13 +75,13 @@ six = N ∷ M ∷ M ∷ F ∷ F ∷ F ∷ []
 
 module _ (cal : List ℕ) (day c : ℕ) where
   start-size : length (begun cal day c) ≡ sizes (startPrices c) six
-  unfolding startBody rules firstAt tierAt listed
+  unfolding startBody rules Rulebook.begun firstAt expiryAt tierAt listed
   start-size =
-      let f : ℕ = firstLive cal day in
+      let f : ℕ = firstLive (expiryOf cal) day in
       rows-length (startPrices c) (tierOf f) (λ m p. newEntry day 5) (liveMonths f) ∙ rw (live-tiers f)
 
-  start-new : added (running (startBody (rules cal) (record { day = day }) c)) ≡ sizes (startPrices c) six
-  unfolding added startBody rules
+  start-new : added (running (startBody (rules cal) (rules cal .begin day) c)) ≡ sizes (startPrices c) six
+  unfolding added startBody rules Rulebook.begun
   start-new = rows-new day 5 _ _ ∙ start-size
 
   -- a running register refuses the start

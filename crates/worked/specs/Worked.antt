@@ -41,7 +41,7 @@ Reaches ps s = (length ps ≡ s .0) × (least ps ≡ s .1) × (greatest ps ≡ s
 
 -- under a calendar a month is live on a day, of a tier
 unfoldable pub LiveAs : List ℕ → ℕ → ℕ → Tier → Type 0
-LiveAs cal day m t = (elem m (liveMonths (firstLive cal day)) ≡ true) × (tierOf (firstLive cal day) m ≡ t)
+LiveAs cal day m t = (elem m (liveMonths (firstLive (expiryOf cal) day)) ≡ true) × (tierOf (firstLive (expiryOf cal) day) m ≡ t)
 
 -- what a line of the table states
 pub data Line : Type 0 where

@@ -8,17 +8,16 @@ use native.Mathlib.Omega.{arith}
 use lib.ListN.{length}
 use borrow.Author.Needs.{needs}
 use Rattle.calendar.specs.Calendar.{Passes, nextSession}
+use Rattle.rules.specs.Rulebook.{moved}
 use Rattle.calls.specs.Calls as Call
 use Rattle.register.specs.Check.{openingCause}
-use Rattle.layout.specs.Bytes.{registerLength, bodyOf, allZero}
-use Rattle.base.specs.Words.{at16}
+use Rattle.layout.specs.Bytes.{registerLength, momentOf, bodyOf, allZero}
 use Rattle.layout.specs.Spans.{runsWell}
-use Rattle.register.proofs.Well.{runs}
+use Rattle.register.proofs.Well.{runs, run-day}
 use Rattle.calls.specs.Listing.{number}
 use Rattle.listing.specs.Writing.{Taken}
 use Rattle.listing.proofs.Opens.{opens-with, opens-running, session-taken}
 use Rattle.listing.proofs.Starts.{day-in}
-use Rattle.listing.proofs.Before.{day-was}
 use Rattle.listing.proofs.Answers.{opening-refused, stood, fell, refused-form, session-refused, session-accepted}
 use Rattle.listing.proofs.session.Statement.{statement}
 use Rattle.listing.proofs.session.Tie as tie
@@ -50,7 +49,7 @@ runs-well c =
     let k = c .before .before in
     stood (cal (start c)) (bs (start c)) (has-status (opened c) .1) (k .standing .result) (k .standing .ensures) (c .if2 .left)
 
-taken : (c : tie.Else3) → let s = start (c .before .before .before) in Taken (cal s) (s .args .day) (s .args .close) × (s .args .day ≡ nextSession (cal s) (at16 (bs s) 2))
+taken : (c : tie.Else3) → let s = start (c .before .before .before) in Taken (cal s) (moved (momentOf (bs s)) (s .args .day)) (s .args .close) × (s .args .day ≡ nextSession (cal s) (momentOf (bs s) .day))
 unfolding bodyOf
 taken c =
     let e = c .before .before .before in
@@ -103,7 +102,7 @@ session-cause-requires c κs =
     let e = c .before in
     let s = start e in
     let h = has-status (opened e) in
-    (h .0, h .1, day-was (cal s) (bs s) (h .1) (runs (cal s) (bs s) (runs-well e)))
+    (h .0, h .1, run-day (cal s) (bs s) (h .1) (runs (cal s) (bs s) (runs-well e)))
 
 refused-requires-3 : tie.Need-refused-requires-3
 refused-requires-3 c κs = search needs
@@ -121,9 +120,10 @@ returns-3 c =
     (c .refused3 .ensures ∙ x .0, x .1)
 
 cast-list-session : tie.Need-cast-list-session
+unfolding moved
 cast-list-session c =
     let s = start (c .before .before .before .before) in
-    omega (arith, day-in (cal s) (s .args .day) (s .args .close) (taken (c .before) .0))
+    omega (arith, day-in (cal s) (moved (momentOf (bs s)) (s .args .day)) (s .args .close) (taken (c .before) .0))
 
 list-session-requires : tie.Need-list-session-requires
 list-session-requires c κs =

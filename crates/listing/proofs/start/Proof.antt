@@ -8,6 +8,7 @@ use native.Mathlib.Omega.{arith}
 use lib.ListN.{length}
 use borrow.Author.Needs.{needs}
 use Rattle.calendar.specs.Calendar.{Passes}
+use Rattle.rules.specs.Rulebook.{begun}
 use Rattle.calls.specs.Calls as Call
 use Rattle.register.specs.Check.{openingCause}
 use Rattle.layout.specs.Bytes.{registerLength, allZero}
@@ -39,7 +40,7 @@ has-status c =
     let o = c .before .before .before .before in
     opens-running (cal (entry o)) (bs (entry o)) (sym (cause-is o) ∙ c .if3 .left)
 
-taken : (c : tie.Else2) → let s = entry (c .before .before .before .before) in Taken (cal s) (s .args .day) (s .args .close)
+taken : (c : tie.Else2) → let s = entry (c .before .before .before .before) in Taken (cal s) (begun (s .args .day)) (s .args .close)
 taken c =
     let t = c .before .before in
     let s = entry (t .before .before) in
@@ -67,9 +68,10 @@ returns c =
     (c .refused .ensures ∙ x .0, x .1)
 
 cast-list-start : tie.Need-cast-list-start
+unfolding begun
 cast-list-start c =
     let s = entry (c .before .before .before .before .before) in
-    omega (arith, day-in (cal s) (s .args .day) (s .args .close) (taken (c .before)))
+    omega (arith, day-in (cal s) (begun (s .args .day)) (s .args .close) (taken (c .before)))
 
 list-start-requires : tie.Need-list-start-requires
 list-start-requires c κs = (empties (c .before .before .before) .1, taken (c .before))

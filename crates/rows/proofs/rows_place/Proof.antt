@@ -5,15 +5,15 @@ use Prim.Native.Nat.{_≤_}
 use native.Mathlib.Omega.{arith}
 use lib.ListN.{length}
 use borrow.Author.Needs.{needs}
-use Rattle.calendar.specs.Live.{firstLive, liveMonths}
+use Rattle.calendar.specs.Live.{liveMonths}
 use Rattle.calendar.specs.declared.Checked.{Checked}
-use Rattle.calendar.proofs.LiveLaws.{live-day}
 use Rattle.rules.specs.Rules.{lastFirstMonth}
-use Rattle.layout.specs.Bytes.{registerLength, bodyOf}
-use Rattle.base.specs.Words.{at16}
+use Rattle.rules.specs.Rulebook.{firstAt}
+use Rattle.rules.proofs.RulebookLaws as Rulebook
+use Rattle.layout.specs.Bytes.{registerLength, momentOf, bodyOf}
 use Rattle.layout.specs.Spans.{spansOf}
 use Rattle.register.specs.Check.{openingCause, openingOf}
-use Rattle.register.proofs.Well.{Running, run-first, run-held, all-stand, standing-none, standing-some}
+use Rattle.register.proofs.Well.{Running, run-first, run-day, run-held, all-stand, standing-none, standing-some}
 use Rattle.register.proofs.Opens.{opens}
 use Rattle.rows.proofs.MonthRows.{spans-order, rows-open, rows-15, rows-placed}
 use Rattle.rows.proofs.rows_place.Statement.{statement}
@@ -40,19 +40,22 @@ runs c = standing-some _ _ (rw (c .before .before .standing .ensures) at (c .if2
 
 first-le : (c : tie.Else2) →
     let a = c .before .before .before .before .before .before .before .before .args in
-    firstLive (a .calendar .now) (at16 (a .register .now) 2) ≤ lastFirstMonth
+    firstAt (a .calendar .now) (momentOf (a .register .now)) ≤ lastFirstMonth
 first-le c = run-first _ _ (size (c .before .before .before)) (runs c)
 
 spans-are : (c : tie.Else2) →
     let a = c .before .before .before .before .before .before .before .before .args in
     let bs = a .register .now in
-    c .before .before .standing .result ≡ spansOf (bodyOf bs) (liveMonths (firstLive (a .calendar .now) (at16 bs 2)))
+    c .before .before .standing .result ≡ spansOf (bodyOf bs) (liveMonths (firstAt (a .calendar .now) (momentOf bs)))
 spans-are c = c .before .before .standing .ensures ∙ sym (all-stand _ _ (runs c))
 
 first-is : (c : tie.After-first-live) →
     let a = c .before .before .before .before .before .before .before .before .before .before .args in
-    c .first-live .result ≡ firstLive (a .calendar .now) (at16 (a .register .now) 2)
-first-is c = rw (c .before .word .ensures) at (c .first-live .ensures)
+    c .first-live .result ≡ firstAt (a .calendar .now) (momentOf (a .register .now))
+unfolding momentOf
+first-is c =
+    let a = c .before .before .before .before .before .before .before .before .before .before .args in
+    rw (c .before .word .ensures) at (c .first-live .ensures) ∙ Rulebook.first-is (a .calendar .now) (momentOf (a .register .now))
 
 opening-requires : tie.Need-opening-requires
 opening-requires c κs = search needs
@@ -87,10 +90,11 @@ word-requires : tie.Need-word-requires
 word-requires c κs = omega (arith, size (c .before .before .before))
 
 first-live-requires : tie.Need-first-live-requires
+unfolding momentOf
 first-live-requires c κs =
     let cal = c .before .before .before .before .before .before .before .before .before .args .calendar .now in
     let bs = c .before .before .before .before .before .before .before .before .before .args .register .now in
-    let d = live-day cal (at16 bs 2) (omega (arith, first-le (c .before))) in
+    let d = run-day cal bs (size (c .before .before .before .before)) (runs (c .before)) in
     (omega (arith, c .word .ensures, d), opens cal bs (goes-on (c .before .before .before .before)) .0)
 
 month-place-requires : tie.Need-month-place-requires
@@ -98,7 +102,7 @@ month-place-requires c κs =
     let cal = c .before .before .before .before .before .before .before .before .before .before .args .calendar .now in
     let bs = c .before .before .before .before .before .before .before .before .before .before .args .register .now in
     let h = run-held cal bs (size (c .before .before .before .before .before)) (runs (c .before .before)) in
-    (omega (arith, first-is c, first-le (c .before .before)), λ i l. rw (spans-are (c .before .before)) (spans-order (firstLive cal (at16 bs 2)) (bodyOf bs) h i l))
+    (omega (arith, first-is c, first-le (c .before .before)), λ i l. rw (spans-are (c .before .before)) (spans-order (firstAt cal (momentOf bs)) (bodyOf bs) h i l))
 
 returns-3 : tie.Need-returns-3
 returns-3 c =
