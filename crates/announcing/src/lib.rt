@@ -1,5 +1,5 @@
 // Announce on the register's bytes, and each of the three calls by its kind.
-use calls::Announced;
+use calls::Told;
 use layout::MOST_WAITING;
 use layout::PLACES;
 ghost use mathlib.Core.Path.{_≡_};
@@ -67,29 +67,32 @@ fn announce_cause(
 }
 
 // Month and price, to be introduced by the next session. An entry point: it takes any bytes and any numbers.
-pub fn announce(calendar: &[u8], register: &mut [u8], month: u32, price: u32) -> Announced
+pub fn announce(calendar: &[u8], register: &mut [u8], month: u32, price: u32) -> Told
     ensures { λ r. ⌜ r ≡ announcedAt (now (calendar .entry)) (Call.announce month price) (now (register .entry)) ⌝ }
     ensures { λ _. ⌜ now (register .exit) ≡ afterAt (rules (now (calendar .entry))) (Call.announce month price) (now (register .entry)) ⌝ }
 {
     let opening = register::opening(calendar, register);
     if opening.number != 0 {
-        return Announced {
+        return Told {
             number: opening.number,
-            waiting: opening.month,
+            value: opening.month,
         };
     }
     let spans = register::standing(calendar, register);
     let span = spans[0];
     if span[0] == 0 {
-        return Announced {
+        return Told {
             number: 15,
-            waiting: 0,
+            value: 0,
         };
     }
     let number = announce_cause(calendar, register, spans, month, price);
     if number != 0 {
-        return Announced { number, waiting: 0 };
+        return Told { number, value: 0 };
     }
     let waiting = put_announcement(register, month as u16, price as u16);
-    Announced { number: 0, waiting }
+    Told {
+        number: 0,
+        value: waiting,
+    }
 }

@@ -36,7 +36,7 @@ pub fn call_by_kind(calendar: &[u8], register: &mut [u8], kind: u8, x: u32, y: u
     let announced = announcing::announce(calendar, register, x, y);
     Answer {
         number: announced.number,
-        first: announced.waiting,
+        first: announced.value,
         second: 0,
         third: 0,
     }

@@ -17,7 +17,7 @@ use Rattle.calendar.specs.Calendar.{firstLacking}
 use Rattle.rules.specs.Rulebook.{rules}
 use Rattle.calls.specs.Listing.{number, accepted}
 use Rattle.calls.specs.declared.Listed.{Listed}
-use Rattle.calls.specs.declared.Announced.{Announced}
+use Rattle.calls.specs.declared.Told.{Told}
 use Rattle.calls.specs.declared.Answer.{Answer}
 
 -- the rows of a register, and how many of a list pass a test
@@ -57,6 +57,10 @@ waitingIn (running b) = length (b .waiting)
 
 -- ---- the answers, for every calendar: an accepted call's values, beside 13 the first month without its session, else zeros
 
+-- the value beside a number
+abbrev pub beside : List ℕ → ℕ → ℕ → ℕ
+beside calendar n value = cond (eqb n 0) value (cond (eqb n 13) (firstLacking calendar) 0)
+
 unfoldable pub listedAt : List ℕ → Call → List ℕ → Listed
 listedAt calendar k bs =
     let R : Rules = rules calendar in
@@ -65,29 +69,27 @@ listedAt calendar k bs =
     let new : Reg = accepted R k old in
     record {
       number = n;
-      added = cond (eqb n 0) (added new) (cond (eqb n 13) (firstLacking calendar) 0);
+      added = beside calendar n (added new);
       removed = cond (eqb n 0) (removed R old new) 0;
       rows = cond (eqb n 0) (length (rowsHeld new)) 0;
     }
 
-unfoldable pub announcedAt : List ℕ → Call → List ℕ → Announced
-announcedAt calendar k bs =
-    let R : Rules = rules calendar in
-    let n : ℕ = numberAt R k bs in
-    record {
-      number = n;
-      waiting = cond (eqb n 0) (waitingIn (accepted R k (regOf bs))) (cond (eqb n 13) (firstLacking calendar) 0);
-    }
+-- a number and one value
+unfoldable pub toldAt : List ℕ → ℕ → ℕ → Told
+toldAt calendar n value = record { number = n; value = beside calendar n value }
+
+unfoldable pub announcedAt : List ℕ → Call → List ℕ → Told
+announcedAt calendar k bs = let R : Rules = rules calendar in toldAt calendar (numberAt R k bs) (waitingIn (accepted R k (regOf bs)))
 
 -- ---- what a call answers, whichever it is: its number and the values beside it
 
 abbrev pub ofListed : Listed → Answer
 ofListed l = record { number = l .number; first = l .added; second = l .removed; third = l .rows }
 
-abbrev pub ofAnnounced : Announced → Answer
-ofAnnounced a = record { number = a .number; first = a .waiting; second = 0; third = 0 }
+abbrev pub ofTold : Told → Answer
+ofTold t = record { number = t .number; first = t .value; second = 0; third = 0 }
 
 unfoldable pub answerAt : List ℕ → Call → List ℕ → Answer
 answerAt calendar (start d c) bs = ofListed (listedAt calendar (start d c) bs)
 answerAt calendar (session d c) bs = ofListed (listedAt calendar (session d c) bs)
-answerAt calendar (announce m p) bs = ofAnnounced (announcedAt calendar (announce m p) bs)
+answerAt calendar (announce m p) bs = ofTold (announcedAt calendar (announce m p) bs)

@@ -18,11 +18,11 @@ pub struct Listed {
     pub rows: u16,
 }
 
-// What an announcement answers: its number, and where that is 0 how many wait; beside 13 the month in `waiting`.
+// What a call answers that tells one value beside its number, an announcement how many wait; a refusal tells 0, and beside 13 the month.
 #[repr(C)]
-pub struct Announced {
+pub struct Told {
     pub number: u16,
-    pub waiting: u16,
+    pub value: u16,
 }
 
 // The rows call's number, and where it is 0 the place of the month's rows in the register, in bytes; a refusal has zeros beside its number.

@@ -1,8 +1,8 @@
 // The C interface: exports alone, each a total function over plain slices and numbers. include/sindhopul.h declares them.
 use calendar::Checked;
-use calls::Announced;
 use calls::Listed;
 use calls::Place;
+use calls::Told;
 use names::Series;
 ghost use mathlib.Core.Path.{_≡_};
 ghost use Rattle.calendar.specs.Calendar.{checkOf};
@@ -51,7 +51,7 @@ pub extern "C" fn sindhopul_announce(
     register: &mut [u8],
     month: u32,
     price: u32,
-) -> Announced
+) -> Told
     ensures { λ r. ⌜ r ≡ announcedAt (now (calendar .entry)) (Call.announce month price) (now (register .entry)) ⌝ }
     ensures { λ _. ⌜ now (register .exit) ≡ afterAt (rules (now (calendar .entry))) (Call.announce month price) (now (register .entry)) ⌝ }
 {

@@ -25,7 +25,8 @@ use Rattle.layout.proofs.RowLaws.{entry-first, ladder-length}
 use Rattle.calls.specs.Listing.{number, accepted}
 use Rattle.history.specs.History.{History, blank, between, acceptedCall, heard, told, monthTold, monthsTold, rowsTold}
 use Rattle.layout.specs.Bytes.{registerLength, mostRows, bodyOf, bodyBytes, regOf, bytesOf, inLayout}
-use Rattle.layout.specs.Opening.{opened, stands, emptyOrWell}
+use Rattle.layout.specs.Opening.{stands, emptyOrWell}
+use Rattle.layout.proofs.OpeningLaws.{none-opened}
 use Rattle.layout.proofs.ByteLaws.{PlacesFit, RowsFit, Fits, RegFits, back, body-back, day-back, count-back, bytes-length, layout-kept}
 use Rattle.calls.specs.Answers.{numberAt, afterAt}
 use Rattle.history.specs.Claim.{emptyRegister, finalAt, numbersAt, rowTold, rowsIn, HoldsDay, ClaimAt, Claim}
@@ -109,12 +110,8 @@ module _ (R : Rules) (L : Laws R) where
 
   -- ---- one call, and a list of calls
   last-number : (k : Call) (bs : List ℕ) → numberAt R k bs ≡ 0 → number R k (regOf bs) ≡ 0
-  unfolding numberAt opened
-  last-number k bs z =
-      let z₁ = none-of _ _ z .1 in
-      let z₂ = none-of _ _ z₁ .1 in
-      let z₃ = none-of _ _ z₂ .1 in
-      none-of _ _ z₃ .0
+  unfolding numberAt
+  last-number k bs z = none-opened R bs (number R k (regOf bs)) z .3
 
   reg-fits : (h : History) (r : Reg) → Agree R h r → SoundReg R L r → RegFits r
   reg-fits h empty a v = tt

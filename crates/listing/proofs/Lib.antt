@@ -1,6 +1,5 @@
 pub mod Opens
 pub mod Head
-pub mod Answers
 pub mod Counting
 pub mod Plans
 pub mod Starts

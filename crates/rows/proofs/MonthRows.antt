@@ -14,7 +14,7 @@ use borrow.Author.Tests.{eqb-true, eq-eqb, ne-eqb, lt-ltb, le-ltb, not-false}
 use Rattle.base.specs.Lists.{elem}
 use Rattle.base.specs.Causes.{cause}
 use Rattle.base.proofs.Tests.{byBool, or-e, or-fl, or-fr}
-use Rattle.base.proofs.CauseLaws.{none-of, not-cause, alone}
+use Rattle.base.proofs.CauseLaws.{not-cause, alone}
 use Rattle.base.proofs.ListLaws.{elem-here, elem-there}
 use Rattle.base.proofs.Rising.{rises, rises-head, rises-tail, rises-all, risesAll}
 use Rattle.calendar.specs.Live.{liveMonths, tierOf}
@@ -24,20 +24,18 @@ use Rattle.grid.proofs.Grids.{prices-length}
 use Rattle.rules.specs.Rulebook.{rules, firstAt}
 use Rattle.rules.proofs.RulebookLaws.{live-rises}
 use Rattle.layout.specs.Rows.{Entry, Row, row, ladder, rowsOf}
-use Rattle.layout.specs.Register.{Body, spanLow, spanHigh}
+use Rattle.layout.specs.Register.{Body, running, spanLow, spanHigh}
 use Rattle.layout.specs.Bytes.{registerLength, rowsBytes, momentOf, bodyOf, allZero, regOf}
 use Rattle.base.specs.Words.{two}
 use Rattle.calls.specs.RowsCall.{monthRows, earlierRows, rowsCause, rowsNumber, rowsPart, rowsPlace}
-use Rattle.layout.specs.Opening.{stands, opened}
-use Rattle.layout.specs.Spans.{runsWell, spansOf}
-use Rattle.register.specs.Check.{openingCause}
+use Rattle.layout.specs.Spans.{spansOf}
 use Rattle.rows.specs.Places.{ladderSize, noRows, monthPlace}
 use Rattle.layout.proofs.ByteLaws.{rows-length}
 use Rattle.layout.proofs.Held.{ladderOf, Held}
 use Rattle.grid.proofs.Runs.{run-is}
 use Rattle.scan.proofs.Found.{Spanned, spanned}
-use Rattle.register.proofs.Well.{Running, runs, runs-i, run-held, rows-behind}
-use Rattle.register.proofs.Opens.{zero-status, says-15, says-own, stands-else, opens, opening-says}
+use Rattle.register.proofs.Well.{Running, runs, run-held, rows-behind}
+use Rattle.layout.proofs.OpeningLaws.{none-opened, Refused, Reads, reads-own, refused-own, stands-else}
 use Rattle.layout.proofs.RowLaws.{ladder-length}
 
 -- ---- the loop over the months, from the i-th on
@@ -186,68 +184,40 @@ spans-order f b h i l = each-order f b (h .low) (h .high) (liveMonths f) (spanne
 
 -- ---- the rows call
 module _ (cal bs : List ℕ) (m : ℕ) where
-  refuses : (n : ℕ) → n ≡ rowsNumber (rules cal) bs m → (n ≡ 0 → ⊥) → noRows n ≡ rowsPlace (rules cal) bs m
-  unfolding rowsPlace
-  refuses n e h = rw (← e, ne-eqb n 0 h)
+  pub rows-refused : {n k : ℕ} → Refused cal bs (rowsCause (rules cal) m (regOf bs)) n k → noRows n ≡ rowsPlace (rules cal) bs m
+  unfolding rowsPlace rowsNumber
+  rows-refused {n} x = rw (x .says, ne-eqb n 0 (x .some))
 
-  own-empty : allZero bs ≡ true → rowsCause (rules cal) m (regOf bs) ≡ 17
-  unfolding rowsCause regOf
-  own-empty z = rw z
+  own-is : rowsCause (rules cal) m (running (bodyOf bs)) ≡ cause (not (elem m (liveMonths (firstAt cal (momentOf bs))))) 26
+  unfolding rowsCause rules bodyOf
+  own-is = alone (cause (not (elem m (liveMonths (firstAt cal (momentOf bs))))) 26)
 
-  own-running : allZero bs ≡ false → rowsCause (rules cal) m (regOf bs) ≡ cause (not (elem m (liveMonths (firstAt cal (momentOf bs))))) 26
-  unfolding rowsCause regOf rules bodyOf
-  own-running z = rw z (alone (cause (not (elem m (liveMonths (firstAt cal (momentOf bs))))) 26))
-
-  -- it says what it opens with
-  pub rows-open : (openingCause cal bs ≡ 0 → ⊥) → noRows (openingCause cal bs) ≡ rowsPlace (rules cal) bs m
-  unfolding rowsNumber
-  rows-open h = refuses (openingCause cal bs) (sym (opening-says cal bs (rowsCause (rules cal) m (regOf bs)) own-empty h)) h
-
-  module _ (o : openingCause cal bs ≡ 0) where
-    some : allZero bs ≡ false
-    some = byBool (allZero bs) (λ z. absurd (opens cal bs o .2 (zero-status bs z))) (λ z. z)
-
-    pub rows-15 : (Running cal bs → ⊥) → noRows 15 ≡ rowsPlace (rules cal) bs m
-    unfolding rowsNumber
-    rows-15 never =
-        let k = opens cal bs o in
-        let ill : runsWell cal bs ≡ false = byBool (runsWell cal bs) (λ h. absurd (never (runs cal bs h))) (λ h. h) in
-        refuses 15 (sym (says-15 cal bs (k .0) (k .1) (rowsCause (rules cal) m (regOf bs)) (stands-else cal bs some ∙ ill))) (λ z. omega arith)
-
-    module _ (r : Running cal bs) where
-      number-is : rowsNumber (rules cal) bs m ≡ cause (not (elem m (liveMonths (firstAt cal (momentOf bs))))) 26
-      unfolding rowsNumber
-      number-is =
-          let k = opens cal bs o in
-          says-own cal bs (k .0) (k .1) (rowsCause (rules cal) m (regOf bs)) (stands-else cal bs some ∙ runs-i cal bs r) ∙ own-running some
-
-      pub rows-placed : let f = firstAt cal (momentOf bs) in monthPlace f m 136 (liveMonths f) (spansOf (bodyOf bs) (liveMonths f)) ≡ rowsPlace (rules cal) bs m
-      unfolding rowsPlace cause
-      rows-placed =
-          let f : ℕ = firstAt cal (momentOf bs) in
-          let b : Body = bodyOf bs in
-          let h = run-held cal bs (opens cal bs o .1) r in
-          byBool (elem m (liveMonths f))
-          (λ e.
-          let z : rowsNumber (rules cal) bs m ≡ 0 = number-is ∙ rw e in
-          placed f m b (h .low) (h .high) (h .entry) (liveMonths f) 136 (spanned f b h) (live-rises f) e ∙ rw (z, ← h .rows-are))
-          (λ e. not-placed f m b (liveMonths f) 136 e ∙ refuses 26 (sym (number-is ∙ rw e)) (λ z. omega arith))
+  pub rows-placed : Reads cal bs (running (bodyOf bs)) → Running cal bs →
+      let f = firstAt cal (momentOf bs) in monthPlace f m 136 (liveMonths f) (spansOf (bodyOf bs) (liveMonths f)) ≡ rowsPlace (rules cal) bs m
+  unfolding rowsPlace rowsNumber cause
+  rows-placed x r =
+      let f : ℕ = firstAt cal (momentOf bs) in
+      let b : Body = bodyOf bs in
+      let h = run-held cal bs (x .size) r in
+      let own = rowsCause (rules cal) m in
+      byBool (elem m (liveMonths f))
+      (λ e.
+      let z : rowsNumber (rules cal) bs m ≡ 0 = reads-own cal bs (running b) x own ∙ own-is ∙ rw e in
+      placed f m b (h .low) (h .high) (h .entry) (liveMonths f) 136 (spanned f b h) (live-rises f) e ∙ rw (z, ← h .rows-are))
+      (λ e. not-placed f m b (liveMonths f) 136 e ∙ rows-refused (refused-own cal bs (running b) x own 26 (sym (own-is ∙ rw e)) (λ z. omega arith) (λ z. omega arith)))
 
   -- ---- what lies at that place
 
   -- where the number is 0 the register runs and the month is live
   accepted : rowsNumber (rules cal) bs m ≡ 0 → (length bs ≡ registerLength) × Running cal bs × (elem m (liveMonths (firstAt cal (momentOf bs))) ≡ true)
-  unfolding rowsNumber opened
+  unfolding rowsNumber rowsCause regOf
   accepted h =
-      let z = none-of _ _ h in
-      let y = none-of _ _ (z .1) in
-      let x = none-of _ _ (y .1) in
-      let own = none-of _ _ (x .1) .0 in
-      let l = eqb-true (length bs) registerLength (not-false _ (not-cause (not (eqb (length bs) registerLength)) 13 (y .0))) in
-      let s = not-false _ (not-cause (not (stands (rules cal) bs)) 14 (x .0)) in
+      let k = none-opened (rules cal) bs (rowsCause (rules cal) m (regOf bs)) h in
       byBool (allZero bs)
-      (λ t. absurd (omega (arith, own-empty t)))
-      (λ t. (l, runs cal bs (sym (stands-else cal bs t) ∙ s), not-false _ (not-cause (not (elem m (liveMonths (firstAt cal (momentOf bs))))) 25 (sym (own-running t) ∙ own))))
+      (λ t. let z : _≡_ {A = ℕ} 17 0 = rw t at (k .3) in absurd (omega arith))
+      (λ t.
+      let z : rowsCause (rules cal) m (running (bodyOf bs)) ≡ 0 = rw t at (k .3) in
+      (k .1, runs cal bs (sym (stands-else cal bs t) ∙ k .2), not-false _ (not-cause (not (elem m (liveMonths (firstAt cal (momentOf bs))))) 25 (sym own-is ∙ z))))
 
   -- behind the rows of the months before stand the month's rows, and they end inside the register
   record There : Type 0 where

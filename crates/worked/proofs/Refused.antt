@@ -6,13 +6,14 @@ use mathlib.Core.List.{List, [], _∷_}
 use Prim.Native.Nat.{ℕ}
 use native.Mathlib.Omega.{arith}
 use Rattle.base.specs.Causes.{cause, firstOf}
-use Rattle.base.proofs.CauseLaws.{none-of, goes-on, alone, caused}
+use Rattle.base.proofs.CauseLaws.{none-of, goes-on, caused}
 use Rattle.grid.specs.Grid.{closeTaken}
 use Rattle.rules.specs.Rules.{Rules}
 use Rattle.calls.specs.Calls.{start, session}
 use Rattle.layout.specs.Register.{Reg, empty, running}
 use Rattle.layout.specs.Bytes.{regOf}
 use Rattle.layout.specs.Opening.{opened}
+use Rattle.layout.proofs.OpeningLaws.{none-opened, says-own}
 use Rattle.calls.specs.Listing.{number}
 use Rattle.calls.specs.Answers.{numberAt}
 
@@ -26,12 +27,7 @@ last a b c d e h =
 module _ (R : Rules) (bs : List ℕ) where
   -- where one call is accepted, another's number is its own
   pub own : (a b : ℕ) → opened R bs a ≡ 0 → (a ≡ 0) × (opened R bs b ≡ b)
-  unfolding opened
-  own a b h =
-      let x = none-of _ _ h in
-      let y = none-of _ _ (x .1) in
-      let z = none-of _ _ (y .1) in
-      (none-of a [] (z .1) .0, goes-on _ _ (x .0) ∙ goes-on _ _ (y .0) ∙ goes-on _ _ (z .0) ∙ alone b)
+  own a b h = let x = none-opened R bs a h in (x .3, says-own R bs b (x .0) (x .1) (x .2))
 
   module _ (day some c : ℕ) (e : closeTaken c ≡ false) where
     at-start : (r : Reg) → number R (start day some) r ≡ 0 → number R (start day c) r ≡ 21

@@ -1,15 +1,49 @@
 -- `announcing::announce` meets its contract: cause after cause, then the announcement in its place.
 -- Assumes nothing.
-use mathlib.Core.Path.{sym, ap, _∙_}
+use mathlib.Core.Path.{_≡_, refl, sym, _∙_}
+use mathlib.Core.List.{List}
+use Prim.Native.Nat.{ℕ}
 use native.Mathlib.Omega.{arith}
 use borrow.Author.Needs.{needs}
-use Rattle.calendar.specs.declared.Checked.{Checked}
-use Rattle.register.specs.Check.{openingOf}
-use Rattle.register.proofs.Well.{runs-i, standing-none, standing-some, all-stand}
-use Rattle.register.proofs.Opens.{opens}
-use Rattle.announcing.proofs.Says.{by-opening, by-15, by-own, fits, room, accepts}
+use Rattle.rules.specs.Rulebook.{rules}
+use Rattle.layout.specs.Register.{running}
+use Rattle.layout.specs.Bytes.{bodyOf}
+use Rattle.calls.specs.Calls as Call
+use Rattle.calls.specs.Calls.{Call}
+use Rattle.calls.specs.Listing.{number, accepted}
+use Rattle.calls.specs.Answers.{waitingIn, announcedAt}
+use Rattle.calls.proofs.AnswerLaws.{refused-told, own-refused, accepted-told}
+use Rattle.register.proofs.Opens.{Runs, opening-refused, opening-goes, standing-refused, standing-runs}
+use Rattle.announcing.proofs.Says.{fits, room}
 use Rattle.announcing.proofs.announce.Statement.{statement}
 use Rattle.announcing.proofs.announce.Tie as tie
+
+abbrev cal : tie.Start → List ℕ
+cal s = s .args .calendar .now
+
+abbrev bs : tie.Start → List ℕ
+bs s = s .args .register .now
+
+abbrev call : tie.Start → Call
+call s = Call.announce (s .args .month) (s .args .price)
+
+abbrev entry : tie.After-opening → tie.Start
+entry c = c .before .before .before .before
+
+abbrev start : tie.Else2 → tie.Start
+start c = entry (c .before .before .before .before .before .before)
+
+-- a register that runs
+runs : (c : tie.Else2) → Runs (cal (start c)) (bs (start c)) (c .before .before .standing .result)
+runs c =
+    let e = c .before .before .before .before in
+    let o = e .before .before in
+    let k = c .before .before in
+    standing-runs (cal (start c)) (bs (start c)) (o .opening .result) (o .opening .ensures) (e .if1 .left) (k .standing .result) (k .standing .ensures) (c .if2 .left)
+
+-- and an announcement without a cause
+none : (c : tie.Else3) → let s = start (c .before .before .before) in number (rules (cal s)) (call s) (running (bodyOf (bs s))) ≡ 0
+none c = sym (c .before .announce-cause .ensures) ∙ c .if3 .left
 
 opening-requires : tie.Need-opening-requires
 opening-requires c κs = search needs
@@ -18,19 +52,16 @@ same-length : tie.Need-same-length
 same-length c = search needs
 
 returns : tie.Need-returns
+unfolding number announcedAt
 returns c =
     let o = c .before .before in
-    let a = o .before .before .before .before .args in
-    by-opening (a .calendar .now) (a .register .now) (a .month) (a .price) (o .opening .result) (o .opening .ensures) (c .if1 .taken)
+    let s = entry o in
+    refused-told (cal s) (bs s) (call s) (opening-refused (cal s) (bs s) (o .opening .result) (o .opening .ensures) (number (rules (cal s)) (call s)) (c .if1 .taken) (λ q. refl)) _
 
 standing-requires : tie.Need-standing-requires
-unfolding openingOf
 standing-requires c κs =
-    let e = c .before in
-    let o = e .before .before in
-    let a = o .before .before .before .before .args in
-    let opened = opens (a .calendar .now) (a .register .now) (sym (ap (λ (x : Checked). x .number) (o .opening .ensures)) ∙ e .if1 .left) in
-    (opened .0, opened .1)
+    let o = c .before .before .before in
+    opening-goes (cal (entry o)) (bs (entry o)) (o .opening .result) (o .opening .ensures) (c .before .if1 .left)
 
 array-copy-out-span : tie.Need-array-copy-out-span
 array-copy-out-span c = search needs
@@ -42,90 +73,62 @@ same-length-2 : tie.Need-same-length-2
 same-length-2 c = search needs
 
 returns-2 : tie.Need-returns-2
-unfolding openingOf
+unfolding announcedAt
 returns-2 c =
-    let e = c .before .before .before .before in
+    let k = c .before .before in
+    let e = k .before .before in
     let o = e .before .before in
-    let a = o .before .before .before .before .args in
-    let opened = opens (a .calendar .now) (a .register .now) (sym (ap (λ (x : Checked). x .number) (o .opening .ensures)) ∙ e .if1 .left) in
-    by-15 (a .calendar .now) (a .register .now) (a .month) (a .price) (opened .0) (opened .1) (opened .2)
-    (standing-none (a .calendar .now) (a .register .now) (opened .1) (rw (c .before .before .standing .ensures) at (c .if2 .taken)))
+    let s = entry o in
+    refused-told (cal s) (bs s) (call s) (standing-refused (cal s) (bs s) (o .opening .result) (o .opening .ensures) (e .if1 .left) (k .standing .result) (k .standing .ensures) (c .if2 .taken) _) _
 
 announce-cause-requires : tie.Need-announce-cause-requires
-unfolding openingOf
-announce-cause-requires c κs =
-    let w = c .before in
-    let e = c .before .before .before .before .before in
-    let o = e .before .before in
-    let a = o .before .before .before .before .args in
-    let opened = opens (a .calendar .now) (a .register .now) (sym (ap (λ (x : Checked). x .number) (o .opening .ensures)) ∙ e .if1 .left) in
-    let r = standing-some (a .calendar .now) (a .register .now) (λ q. w .if2 .left (rw (w .before .before .standing .ensures) q)) in
-    ((opened .0, opened .1), (runs-i (a .calendar .now) (a .register .now) r, w .before .before .standing .ensures ∙ sym (all-stand (a .calendar .now) (a .register .now) r)))
+announce-cause-requires c κs = let r = runs (c .before) in ((r .reads .passes, r .reads .size), (r .well, r .spans-are))
 
 same-length-3 : tie.Need-same-length-3
 same-length-3 c = search needs
 
 returns-3 : tie.Need-returns-3
-unfolding openingOf
+unfolding announcedAt
 returns-3 c =
-    let w = c .before .before .before in
-    let e = c .before .before .before .before .before .before .before in
-    let o = e .before .before in
-    let a = o .before .before .before .before .args in
-    let opened = opens (a .calendar .now) (a .register .now) (sym (ap (λ (x : Checked). x .number) (o .opening .ensures)) ∙ e .if1 .left) in
-    let r = standing-some (a .calendar .now) (a .register .now) (λ q. w .if2 .left (rw (w .before .before .standing .ensures) q)) in
-    by-own (a .calendar .now) (a .register .now) (a .month) (a .price) (opened .0) (opened .1) (opened .2) r (c .before .announce-cause .result) (c .before .announce-cause .ensures) (c .if3 .taken)
+    let k = c .before in
+    let e = k .before .before in
+    let s = start e in
+    refused-told (cal s) (bs s) (call s) (own-refused (cal s) (bs s) (call s) (running (bodyOf (bs s))) (runs e .reads) (k .announce-cause .result) (k .announce-cause .ensures) (c .if3 .taken)) _
 
 cast-put-announcement : tie.Need-cast-put-announcement
-unfolding openingOf
 cast-put-announcement c =
-    let w = c .before .before .before .before in
-    let e = c .before .before .before .before .before .before .before .before in
-    let o = e .before .before in
-    let a = o .before .before .before .before .args in
-    let opened = opens (a .calendar .now) (a .register .now) (sym (ap (λ (x : Checked). x .number) (o .opening .ensures)) ∙ e .if1 .left) in
-    let r = standing-some (a .calendar .now) (a .register .now) (λ q. w .if2 .left (rw (w .before .before .standing .ensures) q)) in
-    let f = fits (a .calendar .now) (a .register .now) (a .month) (a .price) (opened .0) (opened .1) (opened .2) r (c .before .before .announce-cause .result) (c .before .before .announce-cause .ensures) (c .before .if3 .left) in
+    let e = c .before in
+    let w = e .before .before .before in
+    let s = start w in
+    let f = fits (cal s) (bs s) (s .args .month) (s .args .price) (runs w .reads .size) (runs w .run) (none e) in
     omega arith
 
 cast-put-announcement-2 : tie.Need-cast-put-announcement-2
-unfolding openingOf
 cast-put-announcement-2 c =
-    let w = c .before .before .before .before in
-    let e = c .before .before .before .before .before .before .before .before in
-    let o = e .before .before in
-    let a = o .before .before .before .before .args in
-    let opened = opens (a .calendar .now) (a .register .now) (sym (ap (λ (x : Checked). x .number) (o .opening .ensures)) ∙ e .if1 .left) in
-    let r = standing-some (a .calendar .now) (a .register .now) (λ q. w .if2 .left (rw (w .before .before .standing .ensures) q)) in
-    let f = fits (a .calendar .now) (a .register .now) (a .month) (a .price) (opened .0) (opened .1) (opened .2) r (c .before .before .announce-cause .result) (c .before .before .announce-cause .ensures) (c .before .if3 .left) in
+    let e = c .before in
+    let w = e .before .before .before in
+    let s = start w in
+    let f = fits (cal s) (bs s) (s .args .month) (s .args .price) (runs w .reads .size) (runs w .run) (none e) in
     omega arith
 
 put-announcement-requires : tie.Need-put-announcement-requires
-unfolding openingOf
 put-announcement-requires c κs =
-    let w = c .before .before .before .before in
-    let e = c .before .before .before .before .before .before .before .before in
-    let o = e .before .before in
-    let a = o .before .before .before .before .args in
-    let opened = opens (a .calendar .now) (a .register .now) (sym (ap (λ (x : Checked). x .number) (o .opening .ensures)) ∙ e .if1 .left) in
-    let r = standing-some (a .calendar .now) (a .register .now) (λ q. w .if2 .left (rw (w .before .before .standing .ensures) q)) in
-    room (a .calendar .now) (a .register .now) (a .month) (a .price) (opened .0) (opened .1) (opened .2) r (c .before .before .announce-cause .result) (c .before .before .announce-cause .ensures) (c .before .if3 .left)
+    let e = c .before in
+    let w = e .before .before .before in
+    let s = start w in
+    room (cal s) (bs s) (s .args .month) (s .args .price) (runs w .reads .size) (runs w .run) (none e)
 
 same-length-4 : tie.Need-same-length-4
 same-length-4 c = search needs
 
 returns-4 : tie.Need-returns-4
-unfolding openingOf
+unfolding announcedAt accepted waitingIn
 returns-4 c =
-    let w = c .before .before .before .before .before .before .before in
-    let e = c .before .before .before .before .before .before .before .before .before .before .before in
-    let o = e .before .before in
-    let a = o .before .before .before .before .args in
-    let opened = opens (a .calendar .now) (a .register .now) (sym (ap (λ (x : Checked). x .number) (o .opening .ensures)) ∙ e .if1 .left) in
-    let r = standing-some (a .calendar .now) (a .register .now) (λ q. w .if2 .left (rw (w .before .before .standing .ensures) q)) in
-    let n = c .before .before .before .before .before .announce-cause in
-    accepts (a .calendar .now) (a .register .now) (a .month) (a .price) (opened .0) (opened .1) (opened .2) r (n .result) (n .ensures) (c .before .before .before .before .if3 .left)
-    _ _ (c .before .before .put-announcement .ensures .0) (c .before .before .put-announcement .ensures .1)
+    let e = c .before .before .before .before in
+    let w = e .before .before .before in
+    let s = start w in
+    let k = c .before .before .put-announcement in
+    accepted-told (cal s) (bs s) (call s) (running (bodyOf (bs s))) (runs w .reads) (none e) waitingIn _ _ (k .ensures .0) (k .ensures .1)
 
 pub announce-spec : {M : Type 1} → statement M
 announce-spec =

@@ -1,24 +1,23 @@
 -- `listing::session` meets its contract: each return is one of the ways in which a session ends.
 -- Assumes nothing.
 use mathlib.Core.Path.{_≡_, refl, sym, _∙_}
-use mathlib.Core.Bool.{true, false}
 use mathlib.Core.List.{List}
 use Prim.Native.Nat.{ℕ}
 use native.Mathlib.Omega.{arith}
-use lib.ListN.{length}
 use borrow.Author.Needs.{needs}
-use Rattle.calendar.specs.Calendar.{Passes, nextSession}
-use Rattle.rules.specs.Rulebook.{moved}
+use Rattle.calendar.specs.Calendar.{nextSession}
+use Rattle.rules.specs.Rulebook.{moved, rules}
+use Rattle.layout.specs.Register.{Body, running}
+use Rattle.layout.specs.Bytes.{momentOf, bodyOf}
 use Rattle.calls.specs.Calls as Call
-use Rattle.register.specs.Check.{openingCause}
-use Rattle.layout.specs.Bytes.{registerLength, momentOf, bodyOf, allZero}
-use Rattle.layout.specs.Spans.{runsWell}
-use Rattle.register.proofs.Well.{runs, run-day}
-use Rattle.calls.specs.Listing.{number}
+use Rattle.calls.specs.Calls.{Call}
+use Rattle.calls.specs.Listing.{number, accepted}
+use Rattle.calls.proofs.AnswerLaws.{refused-listed, own-refused, accepted-listed}
+use Rattle.register.proofs.Well.{run-day}
+use Rattle.register.proofs.Opens.{Runs, opening-refused, opening-goes, standing-refused, standing-runs}
 use Rattle.listing.specs.Writing.{Taken}
-use Rattle.listing.proofs.Opens.{opens-with, opens-running, session-taken}
+use Rattle.listing.proofs.Opens.{session-taken}
 use Rattle.listing.proofs.Starts.{day-in}
-use Rattle.listing.proofs.Answers.{opening-refused, stood, fell, refused-form, session-refused, session-accepted}
 use Rattle.listing.proofs.session.Statement.{statement}
 use Rattle.listing.proofs.session.Tie as tie
 
@@ -31,30 +30,29 @@ bs s = s .args .register .now
 abbrev entry : tie.After-opening → tie.Start
 entry c = c .before .before .before .before
 
-cause-is : (c : tie.After-opening) → c .opening .result .number ≡ openingCause (cal (entry c)) (bs (entry c))
-cause-is c = opens-with (cal (entry c)) (bs (entry c)) (c .opening .result) (c .opening .ensures)
-
--- a register with a status, and one that runs
-has-status : (c : tie.Else1) → let s = entry (c .before .before) in Passes (cal s) × (length (bs s) ≡ registerLength) × (allZero (bs s) ≡ false)
-has-status c = let s = entry (c .before .before) in opens-running (cal s) (bs s) (sym (cause-is (c .before .before)) ∙ c .if1 .left)
-
-abbrev opened : tie.Else2 → tie.Else1
-opened c = c .before .before .before .before
+abbrev call : tie.Start → Call
+call s = Call.session (s .args .day) (s .args .close)
 
 abbrev start : tie.Else2 → tie.Start
-start c = entry (opened c .before .before)
+start c = entry (c .before .before .before .before .before .before)
 
-runs-well : (c : tie.Else2) → runsWell (cal (start c)) (bs (start c)) ≡ true
-runs-well c =
+-- a register that runs
+runs : (c : tie.Else2) → Runs (cal (start c)) (bs (start c)) (c .before .before .standing .result)
+runs c =
+    let e = c .before .before .before .before in
+    let o = e .before .before in
     let k = c .before .before in
-    stood (cal (start c)) (bs (start c)) (has-status (opened c) .1) (k .standing .result) (k .standing .ensures) (c .if2 .left)
+    standing-runs (cal (start c)) (bs (start c)) (o .opening .result) (o .opening .ensures) (e .if1 .left) (k .standing .result) (k .standing .ensures) (c .if2 .left)
+
+abbrev body : tie.Else2 → Body
+body c = bodyOf (bs (start c))
 
 taken : (c : tie.Else3) → let s = start (c .before .before .before) in Taken (cal s) (moved (momentOf (bs s)) (s .args .day)) (s .args .close) × (s .args .day ≡ nextSession (cal s) (momentOf (bs s) .day))
 unfolding bodyOf
 taken c =
     let e = c .before .before .before in
     let s = start e in
-    session-taken (cal s) (s .args .day) (s .args .close) (bodyOf (bs s)) (has-status (opened e) .0) (sym (c .before .session-cause .ensures) ∙ c .if3 .left)
+    session-taken (cal s) (s .args .day) (s .args .close) (body e) (runs e .reads .passes) (sym (c .before .session-cause .ensures) ∙ c .if3 .left)
 
 opening-requires : tie.Need-opening-requires
 opening-requires c κs = search needs
@@ -70,11 +68,13 @@ unfolding number
 returns c =
     let o = c .before .before .before in
     let s = entry o in
-    let x = opening-refused (cal s) (bs s) (Call.session (s .args .day) (s .args .close)) (o .opening .result) (o .opening .ensures) (c .before .if1 .taken) (λ q. refl) in
+    let x = refused-listed (cal s) (bs s) (call s) (opening-refused (cal s) (bs s) (o .opening .result) (o .opening .ensures) (number (rules (cal s)) (call s)) (c .before .if1 .taken) (λ q. refl)) in
     (c .refused .ensures ∙ x .0, x .1)
 
 standing-requires : tie.Need-standing-requires
-standing-requires c κs = let h = has-status (c .before) in (h .0, h .1)
+standing-requires c κs =
+    let o = c .before .before .before in
+    opening-goes (cal (entry o)) (bs (entry o)) (o .opening .result) (o .opening .ensures) (c .before .if1 .left)
 
 array-copy-out-span : tie.Need-array-copy-out-span
 array-copy-out-span c = search needs
@@ -92,17 +92,16 @@ returns-2 : tie.Need-returns-2
 returns-2 c =
     let k = c .before .before .before in
     let e = k .before .before in
-    let s = entry (e .before .before) in
-    let h = has-status e in
-    let x = refused-form (cal s) (bs s) (Call.session (s .args .day) (s .args .close)) (h .0) (h .1) (h .2) (fell (cal s) (bs s) (h .1) (k .standing .result) (k .standing .ensures) (c .before .if2 .taken)) in
+    let o = e .before .before in
+    let s = entry o in
+    let x = refused-listed (cal s) (bs s) (call s) (standing-refused (cal s) (bs s) (o .opening .result) (o .opening .ensures) (e .if1 .left) (k .standing .result) (k .standing .ensures) (c .before .if2 .taken) _) in
     (c .refused2 .ensures ∙ x .0, x .1)
 
 session-cause-requires : tie.Need-session-cause-requires
 session-cause-requires c κs =
     let e = c .before in
-    let s = start e in
-    let h = has-status (opened e) in
-    (h .0, h .1, run-day (cal s) (bs s) (h .1) (runs (cal s) (bs s) (runs-well e)))
+    let r = runs e in
+    (r .reads .passes, r .reads .size, run-day (cal (start e)) (bs (start e)) (r .reads .size) (r .run))
 
 refused-requires-3 : tie.Need-refused-requires-3
 refused-requires-3 c κs = search needs
@@ -115,8 +114,7 @@ returns-3 c =
     let k = c .before .before in
     let e = k .before .before in
     let s = start e in
-    let h = has-status (opened e) in
-    let x = session-refused (cal s) (bs s) (s .args .day) (s .args .close) (h .0) (h .1) (runs-well e) (k .session-cause .result) (k .session-cause .ensures) (c .before .if3 .taken) in
+    let x = refused-listed (cal s) (bs s) (call s) (own-refused (cal s) (bs s) (call s) (running (body e)) (runs e .reads) (k .session-cause .result) (k .session-cause .ensures) (c .before .if3 .taken)) in
     (c .refused3 .ensures ∙ x .0, x .1)
 
 cast-list-session : tie.Need-cast-list-session
@@ -128,19 +126,19 @@ cast-list-session c =
 list-session-requires : tie.Need-list-session-requires
 list-session-requires c κs =
     let e = c .before .before .before .before in
-    ((has-status (opened e) .1, runs-well e, e .before .before .standing .ensures), taken (c .before))
+    ((runs e .reads .size, runs e .well, e .before .before .standing .ensures), taken (c .before))
 
 same-length-4 : tie.Need-same-length-4
 same-length-4 c = search needs
 
 returns-4 : tie.Need-returns-4
+unfolding accepted rules bodyOf
 returns-4 c =
     let r = c .before .before in
     let n = r .before .before in
     let e = n .before .before .before in
     let s = start e in
-    let h = has-status (opened e) in
-    session-accepted (cal s) (bs s) (s .args .day) (s .args .close) (h .0) (h .1) (runs-well e) (sym (n .before .session-cause .ensures) ∙ n .if3 .left)
+    accepted-listed (cal s) (bs s) (call s) (running (body e)) (runs e .reads) (sym (n .before .session-cause .ensures) ∙ n .if3 .left)
     (r .list-session .result) (r .list-session .last .1 .0) (r .list-session .ensures .0) (r .list-session .ensures .1)
 
 pub session-spec : {M : Type 1} → statement M
