@@ -15,13 +15,13 @@ use Rattle.base.specs.Lists.{elem, select, within, least, greatest}
 use Rattle.base.proofs.Tests.{byBool, and-l, and-r, and-i}
 use Rattle.base.proofs.ListLaws.{elem-here, within-r}
 use Rattle.dates.specs.Months.{dayCount}
-use Rattle.calendar.specs.Calendar.{session}
-use Rattle.calendar.specs.Live.{liveMonths, tierOf}
+use Rattle.calendar.specs.Calendar.{session, expiryOf}
+use Rattle.calendar.specs.Live.{firstLive, liveMonths, tierOf}
 use Rattle.grid.specs.Grid.{gridOf}
 use Rattle.grid.proofs.Prices.{price-line}
 use Rattle.rules.specs.Rules.{lastFirstMonth}
 use Rattle.rules.specs.Rulebook.{rules, firstAt, tierAt}
-use Rattle.rules.proofs.RulebookLaws.{first-day}
+use Rattle.rules.proofs.RulebookLaws.{first-is, first-day}
 use Rattle.layout.specs.Rows.{newEntry, Row, row, rowsOf, pricesOf, entryOk}
 use Rattle.layout.specs.Register.{mostWaiting, Body, running, spanLow, spanHigh, sameKeys, nonEmpty, entriesOk, listed, waitingOk, wellFormed}
 use Rattle.base.specs.Words.{at16}
@@ -102,6 +102,11 @@ module _ (cal bs : List ℕ) where
       let z : allZero bs ≡ false = ap allZero (r .written) ∙ body-some (bodyOf bs) in
       let s : sameBytes bs (bodyBytes (bodyOf bs)) ≡ true = ap (sameBytes bs) (sym (r .written)) ∙ same-self bs in
       rw z (runs-opened z ∙ and-i s (well-formed (r .well)))
+
+-- its first live month, as the calendar gives it on the day that stands in the bytes
+pub first-read : (cal bs : List ℕ) {first day : ℕ} → day ≡ at16 bs 2 → first ≡ firstLive (expiryOf cal) day → first ≡ firstAt cal (momentOf bs)
+unfolding momentOf
+first-read cal bs d e = e ∙ ap (firstLive (expiryOf cal)) d ∙ first-is cal (momentOf bs)
 
 -- ---- what the scan finds of it
 module _ (cal bs : List ℕ) (l : length bs ≡ 11264) (r : Running cal bs) where

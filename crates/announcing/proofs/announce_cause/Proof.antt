@@ -8,11 +8,10 @@ use borrow.Author.Needs.{needs}
 use Rattle.base.specs.Causes.{firstOf}
 use Rattle.rules.specs.Rules.{next, lastFirstMonth}
 use Rattle.rules.specs.Rulebook.{firstAt, rules}
-use Rattle.rules.proofs.RulebookLaws as Rulebook
 use Rattle.rules.proofs.RulebookLaws.{first-top}
 use Rattle.layout.specs.Register.{announceCauses}
 use Rattle.layout.specs.Bytes.{momentOf, bodyOf}
-use Rattle.register.proofs.Well.{Running, runs, run-first, run-day}
+use Rattle.register.proofs.Well.{Running, first-read, runs, run-first, run-day}
 use Rattle.announcing.proofs.Says.{few-wait, gathered, own-refusal, own-full, own-none}
 use Rattle.announcing.proofs.announce_cause.Statement.{statement}
 use Rattle.announcing.proofs.announce_cause.Tie as tie
@@ -30,10 +29,7 @@ live : (s : tie.Start) → firstAt (cal s) (momentOf (bs s)) ≤ lastFirstMonth
 live s = run-first (cal s) (bs s) (s .pre .0 .1) (run s)
 
 first-is : (c : tie.After-first-live) → let s = c .before .before .before .before in c .first-live .result ≡ firstAt (cal s) (momentOf (bs s))
-unfolding momentOf
-first-is c =
-    let s = c .before .before .before .before in
-    rw (c .before .word .ensures) at (c .first-live .ensures) ∙ Rulebook.first-is (cal s) (momentOf (bs s))
+first-is c = first-read _ _ (c .before .word .ensures) (c .first-live .ensures)
 
 found : (c : tie.After-refusal) →
     let s = c .before .before .before .before .before .before .before .before in

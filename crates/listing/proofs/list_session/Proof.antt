@@ -13,7 +13,7 @@ use Rattle.rules.proofs.RulebookLaws as Rulebook
 use Rattle.layout.specs.Bytes.{registerLength, momentOf, bodyOf}
 use Rattle.base.specs.Words.{at16}
 use Rattle.layout.specs.Spans.{spansOf}
-use Rattle.register.proofs.Well.{Running, runs, all-stand, run-keeps, run-first, run-day}
+use Rattle.register.proofs.Well.{Running, first-read, runs, all-stand, run-keeps, run-first, run-day}
 use Rattle.listing.proofs.Starts.{close-low, close-high, day-in}
 use Rattle.listing.proofs.Before.{old}
 use Rattle.listing.proofs.Sessions.{TakenUp, up-ready, up-order, up-within, up-relisted, up-count, up-head}
@@ -49,8 +49,7 @@ abbrev start₃ : tie.After-new-spans → tie.Start
 start₃ c = start₂ (c .before .before .before .before .before)
 
 before-is : (c : tie.After-first-live) → c .first-live .result ≡ first₀ (start₁ c)
-unfolding momentOf
-before-is c = rw (c .before .word2 .ensures) at (c .first-live .ensures) ∙ Rulebook.first-is (cal (start₁ c)) (momentOf (bs (start₁ c)))
+before-is c = first-read (cal (start₁ c)) (bs (start₁ c)) (c .before .word2 .ensures) (c .first-live .ensures)
 
 first-is : (c : tie.After-first-live2) → let s = start₁ (c .before) in c .first-live2 .result ≡ firstAt (cal s) (moved (momentOf (bs s)) (s .args .day))
 unfolding moved

@@ -11,7 +11,6 @@ use borrow.Author.Tests.{not-true, not-false}
 use Rattle.base.proofs.Tests.{clash}
 use Rattle.calendar.specs.Live.{liveMonths}
 use Rattle.rules.specs.Rulebook.{firstAt, rules}
-use Rattle.rules.proofs.RulebookLaws as Rulebook
 use Rattle.layout.specs.Register.{waitingOk}
 use Rattle.base.specs.Words.{at16}
 use Rattle.layout.specs.Bytes.{momentOf, bodyOf}
@@ -19,7 +18,7 @@ use Rattle.layout.specs.Spans.{standingSpans}
 use Rattle.register.specs.Check.{Keeps}
 use Rattle.scan.specs.Scan.{rowsAt, ladderSpans}
 use Rattle.layout.proofs.ByteLaws.{places-none}
-use Rattle.register.proofs.Well.{run-keeps, run-session, run-first, run-day, run-held, run-spans, first-low, Scanned, spans-are, stands-if, none-stand, all-stand}
+use Rattle.register.proofs.Well.{first-read, run-keeps, run-session, run-first, run-day, run-held, run-spans, first-low, Scanned, spans-are, stands-if, none-stand, all-stand}
 use Rattle.register.proofs.standing.Statement.{statement}
 use Rattle.register.proofs.standing.Tie as tie
 
@@ -30,10 +29,7 @@ keeps c = c .before .keeps-layout .ensures .if-true (not-false _ (c .if1 .left))
 first-is : (c : tie.After-first-live) →
     let a = c .before .before .before .before .before .before .before .before .before .args in
     c .first-live .result ≡ firstAt (a .calendar .now) (momentOf (a .register .now))
-unfolding momentOf
-first-is c =
-    let a = c .before .before .before .before .before .before .before .before .before .args in
-    rw (c .before .before .before .before .word .ensures) at (c .first-live .ensures) ∙ Rulebook.first-is (a .calendar .now) (momentOf (a .register .now))
+first-is c = first-read _ _ (c .before .before .before .before .word .ensures) (c .first-live .ensures)
 
 spans-is : (c : tie.After-ladders) →
     let a = c .before .before .before .before .before .before .before .before .before .before .before .before .args in

@@ -7,10 +7,9 @@ use native.Mathlib.Omega.{arith}
 use borrow.Author.Needs.{needs}
 use Rattle.rules.specs.Rules.{lastFirstMonth}
 use Rattle.rules.specs.Rulebook.{firstAt, rules}
-use Rattle.rules.proofs.RulebookLaws as Rulebook
 use Rattle.layout.specs.Bytes.{momentOf, bodyOf}
 use Rattle.calls.specs.RowsCall.{rowsCause}
-use Rattle.register.proofs.Well.{run-first, run-day, run-held}
+use Rattle.register.proofs.Well.{first-read, run-first, run-day, run-held}
 use Rattle.register.proofs.Opens.{Runs, opening-refused, opening-goes, standing-refused, standing-runs}
 use Rattle.rows.proofs.MonthRows.{spans-order, rows-refused, rows-placed}
 use Rattle.rows.proofs.rows_place.Statement.{statement}
@@ -40,8 +39,7 @@ first-le : (c : tie.Else2) → firstAt (cal (start c)) (momentOf (bs (start c)))
 first-le c = run-first _ _ (runs c .reads .size) (runs c .run)
 
 first-is : (c : tie.After-first-live) → let s = start (c .before .before) in c .first-live .result ≡ firstAt (cal s) (momentOf (bs s))
-unfolding momentOf
-first-is c = let s = start (c .before .before) in rw (c .before .word .ensures) at (c .first-live .ensures) ∙ Rulebook.first-is (cal s) (momentOf (bs s))
+first-is c = first-read _ _ (c .before .word .ensures) (c .first-live .ensures)
 
 opening-requires : tie.Need-opening-requires
 opening-requires c κs = search needs
