@@ -12,33 +12,26 @@ use Rattle.base.specs.Lists.{elem}
 use Rattle.base.specs.Causes.{cause, firstOf}
 use Rattle.base.proofs.Tests.{or-fl}
 use Rattle.base.proofs.CauseLaws.{none-of, not-cause, decides, goes-on, alone}
-use Rattle.dates.specs.Months.{dayCount}
-use Rattle.calendar.specs.Calendar.{nextSession}
-use Rattle.calendar.specs.Live.{firstLive, liveMonths}
-use Rattle.calendar.proofs.LiveLaws.{live-day}
-use Rattle.rules.specs.Rules.{Rules, next}
-use Rattle.rules.specs.Rulebook.{rules}
+use Rattle.calendar.specs.Calendar.{Passes}
+use Rattle.calendar.specs.Live.{liveMonths}
+use Rattle.rules.specs.Rules.{Rules, next, lastFirstMonth}
+use Rattle.rules.specs.Rulebook.{firstAt, rules}
 use Rattle.calls.specs.Calls.{announce}
 use Rattle.rules.proofs.RulebookLaws.{laws}
 use Rattle.layout.specs.Register.{mostWaiting, Body, running, waitingOf, announceCauses}
-use Rattle.layout.specs.Bytes.{registerLength, bodyOf, bytesOf}
-use Rattle.base.specs.Words.{at16}
+use Rattle.layout.specs.Bytes.{registerLength, momentOf, bodyOf, bytesOf}
 use Rattle.layout.specs.Spans.{spansOf, placesAt, spanIn}
 use Rattle.register.specs.Check.{causesAt}
 use Rattle.layout.proofs.ByteLaws.{places-count}
 use Rattle.layout.proofs.Running.{Running}
-use Rattle.register.proofs.Well.{run-keeps, run-first}
+use Rattle.register.proofs.Well.{run-keeps}
 use Rattle.register.proofs.Waiting.{causes-are}
 use Rattle.calls.specs.Listing.{number}
 use Rattle.announcing.specs.Placing.{Room}
 
--- ---- a register that runs: its day lies in the calendar, and its places in their part
-module _ (cal bs : List ℕ) (size : length bs ≡ registerLength) (r : Running cal bs) where
-  pub day-in : at16 bs 2 < dayCount
-  day-in = let l = run-first cal bs size r in live-day cal (at16 bs 2) (omega arith)
-
-  pub few-wait : getD bs 1 0 ≤ mostWaiting
-  few-wait = run-keeps cal bs size r .waiting
+-- ---- a register that runs: its places lie in their part
+pub few-wait : (cal bs : List ℕ) → length bs ≡ registerLength → Running cal bs → getD bs 1 0 ≤ mostWaiting
+few-wait cal bs size r = run-keeps cal bs size r .waiting
 
 -- ---- the announcement's own causes, by what the scan knows
 module _ (cal bs : List ℕ) (m p : ℕ) where
@@ -46,32 +39,28 @@ module _ (cal bs : List ℕ) (m p : ℕ) where
   b = bodyOf bs
 
   abbrev f : ℕ
-  f = firstLive cal (at16 bs 2)
+  f = firstAt cal (momentOf bs)
 
   waiting-count : length (b .waiting) ≡ getD bs 1 0
   unfolding bodyOf
   waiting-count = places-count (getD bs 1 0) (drop 8 bs)
 
-  scanned : causesAt cal (at16 bs 2) f (firstLive cal (nextSession cal (at16 bs 2))) (spanIn (liveMonths f) (spansOf b (liveMonths f)) m) (elem p (waitingOf m (placesAt bs 8 (getD bs 1 0)))) m p
-      ≡ firstOf (announceCauses (rules cal) b (b .waiting) m p)
-  unfolding bodyOf
-  scanned = causes-are cal b (b .waiting) m p
-
   -- what the leaves found, put together
-  pub gathered : (day first next n : ℕ) (spans : List (List ℕ)) (waits : Bool) → day ≡ at16 bs 2 → first ≡ firstLive cal day → next ≡ firstLive cal (nextSession cal day)
-      → waits ≡ elem p (waitingOf m (placesAt bs 8 (getD bs 1 0))) → spans ≡ spansOf b (liveMonths f) → n ≡ causesAt cal day first next (spanIn (liveMonths first) spans m) waits m p
-      → n ≡ causesAt cal (at16 bs 2) f (firstLive cal (nextSession cal (at16 bs 2))) (spanIn (liveMonths f) (spansOf b (liveMonths f)) m) (elem p (waitingOf m (placesAt bs 8 (getD bs 1 0)))) m p
-  gathered day first next n spans waits d fi nx w s e = cc
+  pub gathered : Passes cal → f ≤ lastFirstMonth → (first next₁ n : ℕ) (spans : List (List ℕ)) (waits : Bool) → first ≡ f → next₁ ≡ firstAt cal (next (rules cal) (momentOf bs))
+      → waits ≡ elem p (waitingOf m (placesAt bs 8 (getD bs 1 0))) → spans ≡ spansOf b (liveMonths f) → n ≡ causesAt first next₁ (spanIn (liveMonths first) spans m) waits m p
+      → n ≡ firstOf (announceCauses (rules cal) b (b .waiting) m p)
+  unfolding bodyOf
+  gathered passes live first next₁ n spans waits fi nx w s e = rw (nx, w, s, fi) at e ∙ causes-are cal passes b live (b .waiting) m p
 
-  module _ (n : ℕ) (e : n ≡ causesAt cal (at16 bs 2) f (firstLive cal (nextSession cal (at16 bs 2))) (spanIn (liveMonths f) (spansOf b (liveMonths f)) m) (elem p (waitingOf m (placesAt bs 8 (getD bs 1 0)))) m p) where
+  module _ (n : ℕ) (e : n ≡ firstOf (announceCauses (rules cal) b (b .waiting) m p)) where
     pub own-refusal : (n ≡ 0 → ⊥) → n ≡ number (rules cal) (announce m p) (running b)
     unfolding number
-    own-refusal h = let g = e ∙ scanned in g ∙ sym (decides (firstOf (announceCauses (rules cal) b (b .waiting) m p)) _ (λ z. h (g ∙ z)))
+    own-refusal h = e ∙ sym (decides (firstOf (announceCauses (rules cal) b (b .waiting) m p)) _ (λ z. h (e ∙ z)))
 
     module _ (z : n ≡ 0) where
       last-cause : number (rules cal) (announce m p) (running b) ≡ cause (leb mostWaiting (length (b .waiting))) 25
       unfolding number
-      last-cause = goes-on (firstOf (announceCauses (rules cal) b (b .waiting) m p)) _ (sym (e ∙ scanned) ∙ z) ∙ alone _
+      last-cause = goes-on (firstOf (announceCauses (rules cal) b (b .waiting) m p)) _ (sym e ∙ z) ∙ alone _
 
       pub own-full : mostWaiting ≤ getD bs 1 0 → 25 ≡ number (rules cal) (announce m p) (running b)
       unfolding cause

@@ -8,12 +8,11 @@ ghost use mathlib.Core.List.{_++_};
 ghost use Prim.Native.Nat.{_≤_};
 ghost use lib.ListN.{length, drop};
 ghost use Rattle.calendar.specs.Calendar.{Passes};
-ghost use Rattle.calendar.specs.Live.{firstLive, liveMonths};
-ghost use Rattle.rules.specs.Rulebook.{rules};
+ghost use Rattle.calendar.specs.Live.{liveMonths};
+ghost use Rattle.rules.specs.Rulebook.{firstAt, rules};
 ghost use Rattle.calls.specs.Calls as Call;
 ghost use Rattle.layout.specs.Register.{running};
-ghost use Rattle.layout.specs.Bytes.{registerLength, bodyOf, bytesOf};
-ghost use Rattle.base.specs.Words.{at16};
+ghost use Rattle.layout.specs.Bytes.{registerLength, momentOf, bodyOf, bytesOf};
 ghost use Rattle.layout.specs.Spans.{runsWell, spansOf};
 ghost use Rattle.calls.specs.Listing.{announceBody, number};
 ghost use Rattle.calls.specs.Answers.{afterAt, announcedAt};
@@ -53,15 +52,14 @@ fn announce_cause(
 ) -> u16
     requires { ⌜ Passes (now calendar) × (length (now register) ≡ registerLength) ⌝ }
     requires { ⌜ runsWell (now calendar) (now register) ≡ true ⌝ }
-    requires { ⌜ spans ≡ spansOf (bodyOf (now register)) (liveMonths (firstLive (now calendar) (at16 (now register) 2))) ⌝ }
+    requires { ⌜ spans ≡ spansOf (bodyOf (now register)) (liveMonths (firstAt (now calendar) (momentOf (now register)))) ⌝ }
     ensures { λ r. ⌜ r ≡ number (rules (now (calendar .entry))) (Call.announce month price) (running (bodyOf (now (register .entry)))) ⌝ }
 {
-    let day = base::word(register, 2);
-    let first = calendar::first_live(calendar, day);
-    let next = register::next_first(calendar, day);
+    let first = calendar::first_live(calendar, base::word(register, 2));
+    let next = register::next_first(calendar, register);
     let places = register[1] as usize;
     let waits = register::waits(register, PLACES, places, month, price);
-    let number = register::refusal(calendar, day, first, next, spans, waits, month, price);
+    let number = register::refusal(first, next, spans, waits, month, price);
     if number != 0 {
         return number;
     }

@@ -13,11 +13,11 @@ use borrow.Author.Tests.{lt-ltb, le-ltb, ltb-true, ltb-false, eq-eqb, ne-eqb, eq
 use Rattle.base.specs.Search.{firstIn, someIn}
 use Rattle.base.specs.Lists.{leastOf}
 use Rattle.base.specs.Causes.{cause, firstOf}
-use Rattle.base.proofs.Tests.{byBool, byLe, or-l, or-r}
+use Rattle.base.proofs.Tests.{byBool, byLe, clash, or-l, or-r}
 use Rattle.base.proofs.SearchLaws.{first-end, first-miss, first-skip, first-low, first-before, first-found, last-le, last-ge, some-at, some-wider, last-found}
 use Rattle.base.proofs.CauseLaws.{none-of, not-cause, passed}
 use Rattle.dates.specs.Months.{monthCount, dayCount, firstDay, thirdFriday}
-use Rattle.dates.proofs.Laws.{first-day-mono, third-friday-rule, third-friday-before, third-friday-below}
+use Rattle.dates.proofs.Laws.{third-friday-rule, third-friday-below}
 use Rattle.calendar.specs.Calendar.{calendarLength, session, tailSet, lacks, firstLacking, calendarCauses, calendarCause, Passes, expiryOf, nextSession}
 use Rattle.base.proofs.ListLaws.{least-at}
 use Rattle.calendar.proofs.Bits.{word, word-sessions}
@@ -165,11 +165,14 @@ module _ (cal : List ℕ) (passes : Passes cal) where
       let u = found m h in
       last-found (session cal) (thirdFriday m) _ (omega arith) (first-found (session cal) (firstDay m) (thirdFriday m + 1) u)
 
-  -- a later month expires later
-  pub expiry-ascends : (m n : ℕ) → m < n → n < monthCount → expiryOf cal m < expiryOf cal n
-  expiry-ascends m n l h = omega (arith, expiry-to cal m, third-friday-before m, first-day-mono (m + 1) n (omega arith), expiry-from n h)
-
 -- ---- the next session
 pub next-later : (cal : List ℕ) (d : ℕ) → d < nextSession cal d
 unfolding nextSession
 next-later cal d = omega (arith, first-low (session cal) (d + 1) dayCount)
+
+-- it comes by every session after the day
+pub next-by : (cal : List ℕ) (d e : ℕ) → d < e → session cal e ≡ true → nextSession cal d ≤ e
+unfolding nextSession
+next-by cal d e l s =
+    byLe (firstIn (session cal) (d + 1) dayCount) e (λ k. k)
+    (λ k. clash (session cal e) s (first-before (session cal) (d + 1) dayCount e (omega arith) k))

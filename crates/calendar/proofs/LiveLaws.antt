@@ -7,54 +7,85 @@ use Prim.Native.Nat.{ℕ, _+_, _*_, _/_, _%_, _≤_, _<_}
 use native.Mathlib.Omega.{arith}
 use borrow.Author.Tests.{lt-leb, le-leb, leb-true, eq-eqb, ne-eqb}
 use Rattle.base.specs.declared.Tier.the-variants.{N, M, F}
-use Rattle.base.proofs.Tests.{byLe}
-use Rattle.base.proofs.SearchLaws.{first-end, first-hit, first-skip, first-found, first-weaker, first-high}
-use Rattle.dates.specs.Months.{monthCount, dayCount, monthOf}
+use Rattle.base.proofs.Tests.{byLe, clash}
+use Rattle.base.proofs.SearchLaws.{first-end, first-hit, first-skip, first-found, first-before, first-weaker, first-high}
+use Rattle.dates.specs.Months.{monthCount, dayCount, firstDay, monthOf}
 use Rattle.dates.proofs.Laws.{first-day-mono, third-friday-before, month-of-below, in-month}
 use Rattle.calendar.specs.Calendar.{Passes, expiryOf}
 use Rattle.calendar.specs.Live.{unexpired, firstLive, quarterly, nextQuarter, liveMonths, tierOf}
-use Rattle.calendar.proofs.Laws.{expiry-to, expiry-below, expiry-from}
+use Rattle.calendar.proofs.Laws.{expiry-to, expiry-from}
+
+-- expiry dates that lie each in its own month
+pub record Dated (E : ℕ → ℕ) : Type 0 where
+  pub from : (m : ℕ) → m < monthCount → firstDay m ≤ E m
+  pub before : (m : ℕ) → m < monthCount → E m < firstDay (m + 1)
+
+-- a later month expires later
+pub dates-ascend : (E : ℕ → ℕ) → Dated E → (m n : ℕ) → m < n → n < monthCount → E m < E n
+dates-ascend E t m n l h = omega (arith, t .before m (omega arith), first-day-mono (m + 1) n (omega arith), t .from n h)
+
+-- those of a calendar that passes do
+pub calendar-dated : (cal : List ℕ) → Passes cal → Dated (expiryOf cal)
+calendar-dated cal p = record { from = expiry-from cal p; before = λ m h. omega (arith, expiry-to cal m, third-friday-before m) }
 
 -- ---- the first live month: the day's own month until it has expired, then the next
-module _ (cal : List ℕ) (d : ℕ) (l : d < dayCount) where
-  expired : (j : ℕ) → 0 ≤ j → j < monthOf d → unexpired cal d j ≡ false
+module _ (E : ℕ → ℕ) (t : Dated E) (d : ℕ) (l : d < dayCount) where
+  expired : (j : ℕ) → 0 ≤ j → j < monthOf d → unexpired E d j ≡ false
   unfolding unexpired
   expired j z h =
-      lt-leb d (expiryOf cal j)
-      (omega (arith, in-month d l .from, expiry-to cal j, third-friday-before j, first-day-mono (j + 1) (monthOf d) (omega arith)))
+      lt-leb d (E j)
+      (omega (arith, in-month d l .from, t .before j (omega (arith, month-of-below d l)), first-day-mono (j + 1) (monthOf d) (omega arith)))
 
-  pub live-now : d ≤ expiryOf cal (monthOf d) → firstLive cal d ≡ monthOf d
+  pub live-now : d ≤ E (monthOf d) → firstLive E d ≡ monthOf d
   unfolding firstLive unexpired
   live-now h =
-      first-skip (unexpired cal d) 0 (monthOf d) monthCount (omega arith) (omega (arith, month-of-below d l)) expired
-      ∙ first-hit (unexpired cal d) (monthOf d) monthCount (month-of-below d l) (le-leb d (expiryOf cal (monthOf d)) h)
+      first-skip (unexpired E d) 0 (monthOf d) monthCount (omega arith) (omega (arith, month-of-below d l)) expired
+      ∙ first-hit (unexpired E d) (monthOf d) monthCount (month-of-below d l) (le-leb d (E (monthOf d)) h)
 
-  pub live-next : Passes cal → expiryOf cal (monthOf d) < d → firstLive cal d ≡ monthOf d + 1
+  pub live-next : E (monthOf d) < d → firstLive E d ≡ monthOf d + 1
   unfolding firstLive unexpired
-  live-next g h =
+  live-next h =
       let m = monthOf d in
-      first-skip (unexpired cal d) 0 (m + 1) monthCount (omega arith) (omega (arith, month-of-below d l))
-      (λ j z u. byLe m j (λ k. let e : j ≡ m = omega arith in rw e (lt-leb d (expiryOf cal m) h)) (λ k. expired j z k))
+      first-skip (unexpired E d) 0 (m + 1) monthCount (omega arith) (omega (arith, month-of-below d l))
+      (λ j z u. byLe m j (λ k. let e : j ≡ m = omega arith in rw e (lt-leb d (E m) h)) (λ k. expired j z k))
       ∙ byLe monthCount (m + 1)
-      (λ k. first-end (unexpired cal d) (m + 1) monthCount k)
-      (λ k. first-hit (unexpired cal d) (m + 1) monthCount k (le-leb d (expiryOf cal (m + 1)) (omega (arith, in-month d l .before, expiry-from cal g (m + 1) k))))
+      (λ k. first-end (unexpired E d) (m + 1) monthCount k)
+      (λ k. first-hit (unexpired E d) (m + 1) monthCount k (le-leb d (E (m + 1)) (omega (arith, in-month d l .before, t .from (m + 1) k))))
 
 -- a later day's first live month is no earlier
-pub live-mono : (cal : List ℕ) (d e : ℕ) → d ≤ e → firstLive cal d ≤ firstLive cal e
+pub live-mono : (E : ℕ → ℕ) (d e : ℕ) → d ≤ e → firstLive E d ≤ firstLive E e
 unfolding firstLive unexpired
-live-mono cal d e h =
-    first-weaker (unexpired cal d) (unexpired cal e)
-    (λ m t. le-leb d (expiryOf cal m) (omega (arith, leb-true e (expiryOf cal m) t)))
+live-mono E d e h =
+    first-weaker (unexpired E d) (unexpired E e)
+    (λ m t. le-leb d (E m) (omega (arith, leb-true e (E m) t)))
     0 monthCount (omega arith)
 
 -- the first live month has not expired
-pub live-unexpired : (cal : List ℕ) (d : ℕ) → firstLive cal d < monthCount → d ≤ expiryOf cal (firstLive cal d)
+pub live-unexpired : (E : ℕ → ℕ) (d : ℕ) → firstLive E d < monthCount → d ≤ E (firstLive E d)
 unfolding firstLive unexpired
-live-unexpired cal d h = leb-true d (expiryOf cal (firstLive cal d)) (first-found (unexpired cal d) 0 monthCount h)
+live-unexpired E d h = leb-true d (E (firstLive E d)) (first-found (unexpired E d) 0 monthCount h)
 
--- so a day with a live month lies in the calendar
-pub live-day : (cal : List ℕ) (d : ℕ) → firstLive cal d < monthCount → d < dayCount
-live-day cal d h = omega (arith, live-unexpired cal d h, expiry-below cal (firstLive cal d) h)
+-- and no month that has not is before it
+pub live-first : (E : ℕ → ℕ) (d m : ℕ) → d ≤ E m → firstLive E d ≤ m
+unfolding firstLive unexpired
+live-first E d m h =
+    byLe (firstLive E d) m (λ k. k)
+    (λ k. clash (unexpired E d m) (le-leb d (E m) h) (first-before (unexpired E d) 0 monthCount m (omega arith) k))
+
+pub live-top : (E : ℕ → ℕ) (d : ℕ) → firstLive E d ≤ monthCount
+unfolding firstLive
+live-top E d = first-high (unexpired E d) 0 monthCount (omega arith)
+
+-- where each date lies in the calendar, a day with a live month does, and past the calendar's last day no month is live
+module _ (E : ℕ → ℕ) (in-calendar : (m : ℕ) → m < monthCount → E m < dayCount) (d : ℕ) where
+  pub live-day : firstLive E d < monthCount → d < dayCount
+  live-day h = omega (arith, live-unexpired E d h, in-calendar (firstLive E d) h)
+
+  pub live-past : dayCount ≤ d → firstLive E d ≡ monthCount
+  live-past h =
+      byLe monthCount (firstLive E d)
+      (λ g. omega (arith, live-top E d))
+      (λ g. absurd (omega (arith, live-day g)))
 
 -- ---- the six live months
 pub quarter-is : (f : ℕ) → nextQuarter f ≡ (f + 3) / 3 * 3 + 2
@@ -88,15 +119,3 @@ live-tiers f =
       tier-f f (nextQuarter f + 3) (omega arith),
       tier-f f (nextQuarter f + 6) (omega arith),
     )
-
--- ---- live months
--- past the calendar's last day no month is live
-pub live-top : (cal : List ℕ) (d : ℕ) → firstLive cal d ≤ monthCount
-unfolding firstLive
-live-top cal d = first-high (unexpired cal d) 0 monthCount (omega arith)
-
-pub live-past : (cal : List ℕ) (d : ℕ) → dayCount ≤ d → firstLive cal d ≡ monthCount
-live-past cal d h =
-    byLe monthCount (firstLive cal d)
-    (λ g. omega (arith, live-top cal d))
-    (λ g. absurd (omega (arith, live-day cal d g)))

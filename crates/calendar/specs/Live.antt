@@ -8,15 +8,14 @@ use Rattle.base.specs.Search.{firstIn}
 use Rattle.base.specs.declared.Tier.{Tier}
 use Rattle.base.specs.declared.Tier.the-variants.{N, M, F}
 use Rattle.dates.specs.Months.{monthCount}
-use Rattle.calendar.specs.Calendar.{expiryOf}
 
--- month m's expiry date is day d or later
-unfoldable pub unexpired : List ℕ → ℕ → ℕ → Bool
-unexpired cal d m = leb d (expiryOf cal m)
+-- month m's expiry date is day d or later, where E gives the expiry dates
+unfoldable pub unexpired : (ℕ → ℕ) → ℕ → ℕ → Bool
+unexpired E d m = leb d (E m)
 
 -- the first live month on day d: the earliest whose expiry date is d or later; after month 1,199's expiry date, 1,200
-unfoldable pub firstLive : List ℕ → ℕ → ℕ
-firstLive cal d = firstIn (unexpired cal d) 0 monthCount
+unfoldable pub firstLive : (ℕ → ℕ) → ℕ → ℕ
+firstLive E d = firstIn (unexpired E d) 0 monthCount
 
 -- month m is March, June, September or December
 unfoldable pub quarterly : ℕ → Bool

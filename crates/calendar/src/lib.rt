@@ -174,7 +174,7 @@ pub fn next_session(calendar: &[u8], day: u16) -> u16
 // The first live month of a day: the day's own month until it has expired, then the next.
 pub fn first_live(calendar: &[u8], day: u16) -> u16
     requires { ⌜ (day < dayCount) × Passes (now calendar) ⌝ }
-    ensures { λ r. ⌜ r ≡ firstLive (now (calendar .entry)) day ⌝ }
+    ensures { λ r. ⌜ r ≡ firstLive (expiryOf (now (calendar .entry))) day ⌝ }
 {
     let month = dates::month_of(day);
     if day <= expiry(calendar, month) {

@@ -20,11 +20,12 @@ use Rattle.dates.specs.Months.{friday, monthDays, firstDay, thirdFriday}
 use Rattle.calendar.specs.Calendar.{Passes, session as hasSession, expiryOf, nextSession}
 use Rattle.calendar.specs.Live.{firstLive, liveMonths, tierOf}
 use Rattle.grid.specs.Grid.{gridOf, closeTaken}
-use Rattle.rules.specs.Rulebook.{firstAt, tierAt, rules}
+use Rattle.rules.specs.Rulebook as Rulebook
+use Rattle.rules.specs.Rulebook.{firstAt, tierAt, rules, expiryAt}
 use Rattle.calls.specs.Calls.{Call, start, session, announce}
 use Rattle.rules.proofs.RulebookLaws.{laws}
 use Rattle.layout.specs.Register.{empty, running, waitingOf, spanLow, spanHigh, announceCauses}
-use Rattle.layout.specs.Bytes.{placesFrom, bytesOf, bodyOf, allZero, regOf}
+use Rattle.layout.specs.Bytes.{placesFrom, bytesOf, bodyOf, allZero, regOf, momentOf}
 use Rattle.base.specs.Words.{at16}
 use Rattle.layout.specs.Opening.{opened, stands}
 use Rattle.calls.specs.RowsCall.{rowsCause, rowsNumber}
@@ -51,23 +52,23 @@ unfolding closeTaken cause
 taken c lo hi = rw (within-i lo hi)
 
 -- nothing but the close is left to refuse it
-module _ (cal : List ℕ) (passes : Passes cal) (d c : ℕ) (hd : d ≤ 36524) (hs : hasSession cal d ≡ true) (hl : firstLive cal d ≤ 1190) where
+module _ (cal : List ℕ) (passes : Passes cal) (d c : ℕ) (hd : d ≤ 36524) (hs : hasSession cal d ≡ true) (hl : firstLive (expiryOf cal) d ≤ 1190) where
   start-own : number (rules cal) (start d c) empty ≡ cause (not (closeTaken c)) 21
-  unfolding number rules firstAt
+  unfolding number rules Rulebook.begun Rulebook.moved firstAt expiryAt
   start-own =
       passed _ 18 _ (rw (lt-ltb d 36525 (omega arith), hs))
-      ∙ passed _ 20 _ (le-ltb 1190 (firstLive cal d) hl)
+      ∙ passed _ 20 _ (le-ltb 1190 (firstLive (expiryOf cal) d) hl)
       ∙ alone (cause (not (closeTaken c)) 21)
 
   pub start-number : numberAt (rules cal) (start d c) emptyRegister ≡ cause (not (closeTaken c)) 21
-  unfolding numberAt rules
+  unfolding numberAt rules Rulebook.begun Rulebook.moved
   start-number =
       let s = empty-stands cal in
       says-own (rules cal) emptyRegister (number (rules cal) (start d c) (regOf emptyRegister)) passes (s .0) (s .1)
       ∙ ap (number (rules cal) (start d c)) empty-read
       ∙ start-own
 
-pub start-accepted : (cal : List ℕ) → Passes cal → (d c : ℕ) → d ≤ 36524 → hasSession cal d ≡ true → firstLive cal d ≤ 1190
+pub start-accepted : (cal : List ℕ) → Passes cal → (d c : ℕ) → d ≤ 36524 → hasSession cal d ≡ true → firstLive (expiryOf cal) d ≤ 1190
     → 9000 ≤ c → c ≤ 954999 → numberAt (rules cal) (start d c) emptyRegister ≡ 0
 start-accepted cal passes d c hd hs hl lo hi = start-number cal passes d c hd hs hl ∙ taken c lo hi
 
@@ -92,38 +93,38 @@ module _ (cal bs : List ℕ) where
 
   module _ (passes : Passes cal) (run : Runs cal bs) where
     says : (own : ℕ) → opened (rules cal) bs own ≡ own
-    unfolding rules
+    unfolding rules Rulebook.begun Rulebook.moved
     says own = says-own (rules cal) bs own passes (run .0) (run .2)
 
     -- bytes 2–3 hold the day
-    pub session-number : (d c : ℕ) → d ≡ nextSession cal (at16 bs 2) → firstLive cal d ≤ 1190
+    pub session-number : (d c : ℕ) → d ≡ nextSession cal (at16 bs 2) → firstLive (expiryOf cal) d ≤ 1190
         → numberAt (rules cal) (session d c) bs ≡ cause (not (closeTaken c)) 21
-    unfolding numberAt number rules firstAt bodyOf
+    unfolding numberAt number rules Rulebook.begun Rulebook.moved firstAt expiryAt bodyOf momentOf
     session-number d c e l =
         says _
         ∙ ap (number (rules cal) (session d c)) (run-read run)
         ∙ passed _ 19 _ (rw (eq-eqb d (nextSession cal (at16 bs 2)) e))
-        ∙ passed _ 20 _ (le-ltb 1190 (firstLive cal d) l)
+        ∙ passed _ 20 _ (le-ltb 1190 (firstLive (expiryOf cal) d) l)
         ∙ alone (cause (not (closeTaken c)) 21)
 
-    pub session-accepted : (d c : ℕ) → d ≡ nextSession cal (at16 bs 2) → firstLive cal d ≤ 1190 → 9000 ≤ c → c ≤ 954999
+    pub session-accepted : (d c : ℕ) → d ≡ nextSession cal (at16 bs 2) → firstLive (expiryOf cal) d ≤ 1190 → 9000 ≤ c → c ≤ 954999
         → numberAt (rules cal) (session d c) bs ≡ 0
     session-accepted d c e l lo hi = session-number d c e l ∙ taken c lo hi
 
     -- byte 1 holds how many wait
     pub announce-accepted : (m p : ℕ) → let day = at16 bs 2 in let next = nextSession cal day in
-        firstLive cal next ≤ 1190
-        → elem m (liveMonths (firstLive cal day)) ≡ true → day < expiryOf cal m
-        → elem p (gridOf (tierOf (firstLive cal next) m)) ≡ true
+        firstLive (expiryOf cal) next ≤ 1190
+        → elem m (liveMonths (firstLive (expiryOf cal) day)) ≡ true → day < expiryOf cal m
+        → elem p (gridOf (tierOf (firstLive (expiryOf cal) next) m)) ≡ true
         → (p < spanLow (bodyOf bs) m) ⊎ (spanHigh (bodyOf bs) m < p) → elem p (waitingOf m (bodyOf bs .waiting)) ≡ false
         → getD bs 1 0 < 32
         → numberAt (rules cal) (announce m p) bs ≡ 0
-    unfolding numberAt number announceCauses rules firstAt tierAt bodyOf cause firstOf
+    unfolding numberAt number announceCauses rules Rulebook.begun Rulebook.moved firstAt expiryAt tierAt bodyOf momentOf cause firstOf
     announce-accepted m p l live later on out fresh room =
         says _
         ∙ rw (
           run-read run,
-          le-ltb 1190 (firstLive cal (nextSession cal (at16 bs 2))) l,
+          le-ltb 1190 (firstLive (expiryOf cal) (nextSession cal (at16 bs 2))) l,
           live,
           lt-leb (expiryOf cal m) (at16 bs 2) later,
           on,
@@ -133,8 +134,8 @@ module _ (cal bs : List ℕ) where
           lt-leb 32 (getD bs 1 0) room,
         )
 
-    pub rows-accepted : (m : ℕ) → elem m (liveMonths (firstLive cal (at16 bs 2))) ≡ true → rowsNumber (rules cal) bs m ≡ 0
-    unfolding rowsNumber rowsCause rules firstAt bodyOf cause firstOf
+    pub rows-accepted : (m : ℕ) → elem m (liveMonths (firstLive (expiryOf cal) (at16 bs 2))) ≡ true → rowsNumber (rules cal) bs m ≡ 0
+    unfolding rowsNumber rowsCause rules Rulebook.begun Rulebook.moved firstAt expiryAt bodyOf momentOf cause firstOf
     rows-accepted m live = says _ ∙ rw (run-read run, live)
 
 -- ---- one call with every number given: a start on day 9816, 16 November 2026, under a calendar in which every day has a session
@@ -142,7 +143,7 @@ november : (firstDay 322 ≡ 9801) × (thirdFriday 322 ≡ 9820)
 unfolding thirdFriday firstDay monthDays friday firstFrom
 november = (refl, refl)
 
-pub november-first : (d : ℕ) → 9801 ≤ d → d ≤ 9820 → firstLive everyDay d ≡ 322
+pub november-first : (d : ℕ) → 9801 ≤ d → d ≤ 9820 → firstLive (expiryOf everyDay) d ≡ 322
 november-first d from to = every-day-first d 322 (lit< tt) (omega (arith, november .0)) (omega (arith, november .1))
 
 pub one-start-accepted : numberAt (rules everyDay) (start 9816 241337) emptyRegister ≡ 0

@@ -27,7 +27,7 @@ use Rattle.history.specs.History.{History, blank, between, acceptedCall,
 use Rattle.layout.specs.Bytes.{registerLength, mostRows, bodyOf, bodyBytes, regOf, bytesOf, inLayout}
 use Rattle.layout.specs.Opening.{stands, emptyOrWell}
 use Rattle.layout.proofs.OpeningLaws.{none-opened}
-use Rattle.layout.proofs.ByteLaws.{PlacesFit, RowsFit, Fits, RegFits, back, body-back, count-back, bytes-length, layout-kept}
+use Rattle.layout.proofs.ByteLaws.{PlacesFit, RowsFit, Fits, RegFits, back, body-back, day-back, count-back, bytes-length, layout-kept}
 use Rattle.calls.specs.Answers.{numberAt, afterAt}
 use Rattle.history.specs.Claim.{emptyRegister, finalAt, numbersAt, rowTold, rowsIn, HoldsDay, ClaimAt, Claim}
 use Rattle.history.proofs.Simulation.{Running, Agree, key, between-is, accept}
@@ -194,7 +194,7 @@ module _ (R : Rules) (L : Laws R) where
       let told-rows : map rowTold (b .rows) ≡ monthsTold R h (b .at) (R .live (b .at)) =
       ap (λ (rs : List Row). map rowTold rs) (s .rows-are) ∙ tell-rows h (b .at) (s .entry) (R .live (b .at)) (λ m p l e. s .first-is m p ∙ rw (and-i l e)) in
       record {
-        day = ap (λ (x : Body). x .at .day) body;
+        day = day-back b f;
         rows = ap (λ (x : Body). map rowTold (x .rows)) body ∙ told-rows;
         dated = λ m p l e. (s .entry m p .first, s .first-is m p ∙ rw (and-i l e));
         ascend = rw (ap (λ (x : Body). map rowTold (x .rows)) body ∙ told-rows) (rows-ascend R L h (b .at));

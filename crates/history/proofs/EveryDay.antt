@@ -17,7 +17,7 @@ use Rattle.dates.proofs.Laws.{third-friday-before, third-friday-below, month-of
 use Rattle.calendar.specs.Calendar.{Passes, session, expiryOf, nextSession}
 use Rattle.calendar.specs.Live.{firstLive}
 use Rattle.calendar.proofs.Laws.{no-zero-byte, months-decide}
-use Rattle.calendar.proofs.LiveLaws.{live-now, live-next}
+use Rattle.calendar.proofs.LiveLaws.{calendar-dated, live-now, live-next}
 
 -- ---- some bytes with all eight bits, and a last one with five
 unfoldable pub daysOf : ℕ → List ℕ
@@ -97,14 +97,14 @@ every-day-next d h = first-hit (session everyDay) (d + 1) dayCount (omega arith)
 
 -- the first live month is the day's own up to its third Friday, then the next
 module _ (d m : ℕ) (l : m < monthCount) (from : firstDay m ≤ d) where
-  pub every-day-first : d ≤ thirdFriday m → firstLive everyDay d ≡ m
+  pub every-day-first : d ≤ thirdFriday m → firstLive (expiryOf everyDay) d ≡ m
   every-day-first h =
       let b = third-friday-before m in
       let k = third-friday-below m l in
       let e = month-of-is d m (record { from = from; before = omega arith }) l in
-      live-now everyDay d (omega arith) (rw (e, every-day-expiry m l) h) ∙ e
+      live-now (expiryOf everyDay) (calendar-dated everyDay every-day-passes) d (omega arith) (rw (e, every-day-expiry m l) h) ∙ e
 
-  pub every-day-later : thirdFriday m < d → d < firstDay (m + 1) → d < dayCount → firstLive everyDay d ≡ m + 1
+  pub every-day-later : thirdFriday m < d → d < firstDay (m + 1) → d < dayCount → firstLive (expiryOf everyDay) d ≡ m + 1
   every-day-later h b u =
       let e = month-of-is d m (record { from = from; before = b }) l in
-      live-next everyDay d u every-day-passes (rw (e, every-day-expiry m l) h) ∙ ap (λ (k : ℕ). k + 1) e
+      live-next (expiryOf everyDay) (calendar-dated everyDay every-day-passes) d u (rw (e, every-day-expiry m l) h) ∙ ap (λ (k : ℕ). k + 1) e

@@ -16,14 +16,15 @@ use Rattle.base.proofs.ListLaws.{within-i, within-l, within-r, elem-select, lea
 use Rattle.calendar.specs.Live.{firstLive, nextQuarter, liveMonths}
 use Rattle.calendar.proofs.LiveLaws.{live-mono, quarter-is}
 use Rattle.rules.specs.Rules.{Moment, Rules, next}
-use Rattle.rules.specs.Rulebook.{firstAt, rules}
+use Rattle.rules.specs.Rulebook as Rulebook
+use Rattle.rules.specs.Rulebook.{firstAt, rules, expiryAt}
 use Rattle.calls.specs.Calls.{Call, start, session, announce}
 use Rattle.rules.proofs.Laws.{Laws}
 use Rattle.rules.proofs.RulebookLaws.{laws}
 use Rattle.layout.specs.Rows.{Entry, find, pricesOf}
 use Rattle.layout.specs.Register.{Body, running, waitingOf, spanLow, spanHigh, listed}
 use Rattle.base.specs.Words.{at16}
-use Rattle.layout.specs.Bytes.{bodyOf}
+use Rattle.layout.specs.Bytes.{bodyOf, momentOf}
 use Rattle.layout.proofs.RowLaws.{find-rowsOf, isSome, prices-find}
 use Rattle.calls.specs.Listing.{closeLow, closeHigh, newLow, newHigh, kept, sessionBody, announceBody, number, accepted}
 use Rattle.calls.specs.Answers.{numberAt, afterAt}
@@ -33,6 +34,7 @@ use Rattle.history.proofs.Simulation.{Running, key, found, key-grid, ke
 use Rattle.history.proofs.Closing.{last-number}
 use Rattle.history.proofs.Accepts.{Runs, run-read}
 use Rattle.history.proofs.Written.{Written, written-after, written-body, written-runs, run-written}
+use Rattle.calendar.specs.Calendar.{expiryOf}
 
 -- ---- from one register to a later one
 pub record Lasts (R : Rules) (before after : Body) : Type 0 where
@@ -186,12 +188,12 @@ live-between f g k m a c e l =
 
 lasts-on : (cal : List ℕ) (a b c : Body) → ((m p : ℕ) (e : Entry) → find m p (a .rows) ≡ some e → elem m (rules cal .live (a .at)) ≡ true)
     → Lasts (rules cal) a b → Lasts (rules cal) b c → Lasts (rules cal) a c
-unfolding rules firstAt
+unfolding rules Rulebook.begun Rulebook.moved firstAt expiryAt
 lasts-on cal a b c lived x y = record {
   day = let u = x .day in let v = y .day in omega arith;
   row = λ m p e l q.
-      let mid = live-between (firstLive cal (a .at .day)) (firstLive cal (b .at .day)) (firstLive cal (c .at .day)) m
-      (live-mono cal (a .at .day) (b .at .day) (x .day)) (live-mono cal (b .at .day) (c .at .day) (y .day)) (lived m p e q) l in
+      let mid = live-between (firstLive (expiryOf cal) (a .at .day)) (firstLive (expiryOf cal) (b .at .day)) (firstLive (expiryOf cal) (c .at .day)) m
+      (live-mono (expiryOf cal) (a .at .day) (b .at .day) (x .day)) (live-mono (expiryOf cal) (b .at .day) (c .at .day) (y .day)) (lived m p e q) l in
       y .row m p e l (x .row m p e mid q);
 }
 
@@ -207,7 +209,7 @@ lasting cal bs run (k ∷ ks) =
 
 -- a month is live on the day that bytes 2–3 hold
 abbrev pub LiveIn : List ℕ → List ℕ → ℕ → Type 0
-LiveIn cal bs m = elem m (liveMonths (firstLive cal (at16 bs 2))) ≡ true
+LiveIn cal bs m = elem m (liveMonths (firstLive (expiryOf cal) (at16 bs 2))) ≡ true
 
 module _ (cal bs : List ℕ) (run : Runs cal bs) (calls : List Call) (m : ℕ) where
   abbrev after : List ℕ
@@ -215,13 +217,13 @@ module _ (cal bs : List ℕ) (run : Runs cal bs) (calls : List Call) (m : ℕ) w
 
   -- a row once listed keeps first day and origin as long as its month is live
   pub row-lasts : LiveIn cal after m → (p : ℕ) (e : Entry) → find m p (bodyOf bs .rows) ≡ some e → find m p (bodyOf after .rows) ≡ some e
-  unfolding rules firstAt bodyOf
+  unfolding rules Rulebook.begun Rulebook.moved firstAt expiryAt bodyOf momentOf
   row-lasts l p e q = lasting cal bs run calls .1 .row m p e l q
 
   -- a span never shrinks: the lowest price of the month's rows does not rise and the highest does not fall, as long as it is live
   pub span-lasts : LiveIn cal bs m → LiveIn cal after m
       → (spanLow (bodyOf after) m ≤ spanLow (bodyOf bs) m) × (spanHigh (bodyOf bs) m ≤ spanHigh (bodyOf after) m)
-  unfolding rules firstAt bodyOf
+  unfolding rules Rulebook.begun Rulebook.moved firstAt expiryAt bodyOf momentOf
   span-lasts k l = wider (rules cal) _ (bodyOf bs) (run-written cal bs run .agree) (bodyOf after) m k (row-lasts l)
 
   -- and the register runs on, well formed

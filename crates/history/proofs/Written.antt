@@ -12,13 +12,13 @@ use Rattle.base.specs.Lists.{elem}
 use Rattle.base.specs.Causes.{firstOf}
 use Rattle.base.proofs.Tests.{byBool, and-l, and-r, and-i, or-e}
 use Rattle.base.proofs.CauseLaws.{none-of, not-cause}
-use Rattle.calendar.specs.Calendar.{Passes}
+use Rattle.calendar.specs.Calendar.{Passes, expiryOf}
 use Rattle.calendar.specs.Live.{firstLive, liveMonths, tierOf}
 use Rattle.grid.specs.Numbers.{price}
 use Rattle.grid.proofs.Prices.{price-mono}
 use Rattle.grid.proofs.Grids.{number-on}
 use Rattle.rules.specs.Rules.{Rules, next}
-use Rattle.rules.specs.Rulebook.{firstAt, tierAt, rules}
+use Rattle.rules.specs.Rulebook.{firstAt, tierAt, rules, expiryAt}
 use Rattle.calls.specs.Calls.{Call}
 use Rattle.rules.proofs.Laws.{Laws}
 use Rattle.rules.proofs.RulebookLaws.{laws}
@@ -110,7 +110,7 @@ waiting-grid R b past (w ∷ ws) k m p e =
 
 module _ (cal : List ℕ) (b : Body) (w : Facts (rules cal) b) where
   abbrev f : ℕ
-  f = firstLive cal (b .at .day)
+  f = firstLive (expiryOf cal) (b .at .day)
 
   abbrev holds : Held f (b .rows)
   holds = held cal b w
@@ -125,7 +125,7 @@ module _ (cal : List ℕ) (b : Body) (w : Facts (rules cal) b) where
   }
 
   tells : Running (rules cal) teller b
-  unfolding key between rules firstAt tierAt teller
+  unfolding key between rules firstAt expiryAt tierAt teller
   tells = record {
     at-is = refl;
     good-at = refl;

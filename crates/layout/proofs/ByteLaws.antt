@@ -12,7 +12,7 @@ use Rattle.base.proofs.Tests.{and-i, eqb-self, and-l, and-r, byBool}
 use Rattle.layout.specs.Rows.{Row}
 use Rattle.layout.specs.Register.{Body, Reg, empty, running}
 use Rattle.base.specs.Words.{two, at16}
-use Rattle.layout.specs.Bytes.{placesBytes, rowsBytes, padded, bodyBytes, bytesOf, readPlaces, readRows, bodyOf, allZero, regOf, sameBytes, inLayout}
+use Rattle.layout.specs.Bytes.{placesBytes, rowsBytes, padded, bodyBytes, bytesOf, readPlaces, readRows, momentOf, bodyOf, allZero, regOf, sameBytes, inLayout}
 use native.Mathlib.Nat.{add-zero}
 use Rattle.base.proofs.WordLaws.{at16-drop, word-back}
 use borrow.Author.Tests.{eqb-false, eqb-true, ne-eqb}
@@ -79,9 +79,13 @@ module _ (b : Body) (f : Fits b) where
         padded-length 11128 (rowsBytes (b .rows)) (omega arith),
       )
 
-  pub day-back : bodyOf (bodyBytes b) .at .day ≡ b .at .day
-  unfolding bodyOf bodyBytes at16 two
+  pub day-back : at16 (bodyBytes b) 2 ≡ b .at .day
+  unfolding bodyBytes at16 two
   day-back = word-back (b .at .day) (f .day-fits)
+
+  pub moment-back : momentOf (bodyBytes b) ≡ b .at
+  unfolding momentOf
+  moment-back = λ i. record { day = day-back i }
 
   pub waiting-back : bodyOf (bodyBytes b) .waiting ≡ b .waiting
   unfolding bodyOf bodyBytes two padded
@@ -104,7 +108,8 @@ module _ (b : Body) (f : Fits b) where
   count-back = let n = f .rows-fit in word-back (length (b .rows)) (omega arith)
 
   pub body-back : bodyOf (bodyBytes b) ≡ b
-  body-back = λ i. record { at = record { day = day-back i }; waiting = waiting-back i; rows = rows-back′ i }
+  unfolding bodyOf
+  body-back = λ i. record { at = moment-back i; waiting = waiting-back i; rows = rows-back′ i }
 
   not-zero : allZero (bodyBytes b) ≡ false
   unfolding allZero bodyBytes

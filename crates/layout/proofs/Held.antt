@@ -14,7 +14,7 @@ use Rattle.base.specs.Lists.{elem, select, within, least, greatest}
 use Rattle.base.proofs.Tests.{clash, and-l, and-r, and-i, or-e}
 use Rattle.base.proofs.ListLaws.{elem-here, elem-there, elem-select, within-i, within-l, within-r, least-is, least-P, greatest-is, greatest-P}
 use Rattle.base.proofs.Rising.{rises, rises-tail, rises-all, risesAll, select-rises}
-use Rattle.calendar.specs.Live.{firstLive, liveMonths, tierOf}
+use Rattle.calendar.specs.Live.{liveMonths, tierOf}
 use Rattle.grid.specs.Grid.{gridOf}
 use Rattle.grid.specs.Numbers.{price, numberOf, OnGrid}
 use Rattle.grid.proofs.Prices.{price-mono, price-back}
@@ -181,13 +181,13 @@ row-of b (n ∷ ns) m h e =
 
 module _ (cal : List ℕ) (b : Body) (w : Facts (rules cal) b) where
   abbrev f : ℕ
-  f = firstLive cal (b .at .day)
+  f = firstAt cal (b .at)
 
   abbrev G : ℕ → List ℕ
   G m = select (within (spanLow b m) (spanHigh b m)) (gridOf (tierOf f m))
 
   keys-are : sameKeys (b .rows) (rowsOf (liveMonths f) G (λ m p. newEntry 0 0)) ≡ true
-  unfolding rules firstAt tierAt listed
+  unfolding rules tierAt listed
   keys-are = w .keys
 
   rows : (entry : ℕ → ℕ → Entry) × (b .rows ≡ rowsOf (liveMonths f) G entry)
@@ -197,7 +197,7 @@ module _ (cal : List ℕ) (b : Body) (w : Facts (rules cal) b) where
 
   module _ (m : ℕ) (e : elem m (liveMonths f) ≡ true) where
     low-there : elem (spanLow b m) (pricesOf m (b .rows)) ≡ true
-    unfolding rules firstAt
+    unfolding rules
     low-there = row-of b (liveMonths f) m (w .some-row) e
 
     on-ladder : (p : ℕ) → elem p (pricesOf m (b .rows)) ≡ true → (elem p (gridOf (tierOf f m)) && within (spanLow b m) (spanHigh b m) p) ≡ true

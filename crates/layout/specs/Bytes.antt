@@ -5,6 +5,7 @@ use mathlib.Core.List.{List, [], _∷_, _++_}
 use Prim.Native.Nat.{ℕ, zero, suc, _-_, _*_}
 use lib.Dec.{eqb}
 use lib.ListN.{length, getD, drop, replicate}
+use Rattle.rules.specs.Rules.{Moment}
 use Rattle.layout.specs.Rows.{Row, row}
 use Rattle.layout.specs.Register.{mostWaiting, Body, Reg, empty, running}
 use Rattle.base.specs.Words.{at16, two}
@@ -61,9 +62,13 @@ unfoldable pub readRows : ℕ → List ℕ → List Row
 readRows zero bs = []
 readRows (suc n) bs = row (at16 bs 0) (at16 bs 2) (record { first = at16 bs 4; origin = getD bs 6 0 }) ∷ readRows n (drop 8 bs)
 
+-- a moment is read here alone
+unfoldable pub momentOf : List ℕ → Moment
+momentOf bs = record { day = at16 bs 2 }
+
 unfoldable pub bodyOf : List ℕ → Body
 bodyOf bs = record {
-  at = record { day = at16 bs 2 };
+  at = momentOf bs;
   waiting = readPlaces (getD bs 1 0) (drop placesFrom bs);
   rows = readRows (at16 bs 4) (drop rowsFrom bs);
 }

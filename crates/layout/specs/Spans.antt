@@ -5,11 +5,10 @@ use mathlib.Core.List.{List, [], _∷_}
 use Prim.Native.Nat.{ℕ}
 use lib.Dec.{eqb}
 use lib.ListN.{replicate, drop}
-use Rattle.calendar.specs.Live.{firstLive, liveMonths}
-use Rattle.rules.specs.Rulebook.{rules}
+use Rattle.calendar.specs.Live.{liveMonths}
+use Rattle.rules.specs.Rulebook.{firstAt, rules}
 use Rattle.layout.specs.Register.{Body, spanLow, spanHigh}
-use Rattle.base.specs.Words.{at16}
-use Rattle.layout.specs.Bytes.{bodyOf, allZero, readPlaces}
+use Rattle.layout.specs.Bytes.{momentOf, bodyOf, allZero, readPlaces}
 use Rattle.layout.specs.Opening.{stands}
 
 -- a register that is not empty, keeps the layout and is well formed under a calendar
@@ -29,7 +28,7 @@ noSpans = replicate 6 (0 ∷ 0 ∷ [])
 unfoldable pub standingSpans : List ℕ → List ℕ → List (List ℕ)
 standingSpans calendar bs =
     cond (runsWell calendar bs)
-    (spansOf (bodyOf bs) (liveMonths (firstLive calendar (at16 bs 2))))
+    (spansOf (bodyOf bs) (liveMonths (firstAt calendar (momentOf bs))))
     noSpans
 
 -- the span of a month among those of some months; zeros where it is none of them

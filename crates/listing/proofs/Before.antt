@@ -3,7 +3,7 @@
 use mathlib.Core.Path.{_≡_, refl, sym, ap, _∙_}
 use mathlib.Core.Bool.{true, false≢true}
 use mathlib.Core.List.{List, [], _∷_, _++_, append-assoc}
-use Prim.Native.Nat.{ℕ, _+_, _*_, _/_, _%_, _<_}
+use Prim.Native.Nat.{ℕ, _+_, _*_, _/_, _%_}
 use native.Mathlib.Omega.{arith}
 use lib.Dec.{eqb}
 use lib.ListN.{length, getD, take, drop}
@@ -13,21 +13,18 @@ use Rattle.base.specs.Lists.{elem}
 use Rattle.base.specs.Causes.{firstOf}
 use Rattle.base.proofs.Tests.{byBool, and-l, and-r, or-e}
 use Rattle.base.proofs.CauseLaws.{none-of, not-cause}
-use Rattle.dates.specs.Months.{dayCount}
-use Rattle.calendar.specs.Calendar.{nextSession}
-use Rattle.calendar.specs.Live.{firstLive, tierOf}
-use Rattle.calendar.proofs.LiveLaws.{live-day}
+use Rattle.calendar.specs.Live.{tierOf}
 use Rattle.grid.specs.Grid.{gridOf}
 use Rattle.rules.specs.Rules.{Rules, next}
 use Rattle.rules.specs.Rulebook.{firstAt, tierAt, rules}
 use Rattle.layout.specs.Rows.{Row}
 use Rattle.layout.specs.Register.{Body, waitingOf, announceCauses, waitingOk}
-use Rattle.layout.specs.Bytes.{registerLength, placesBytes, rowsBytes, padded, bodyBytes, readPlaces, readRows, bodyOf}
+use Rattle.layout.specs.Bytes.{registerLength, placesBytes, rowsBytes, padded, bodyBytes, readPlaces, readRows, momentOf, bodyOf}
 use Rattle.base.specs.Words.{two, at16}
 use Rattle.layout.proofs.ByteLaws.{places-length, rows-length, padded-length, places-count, rows-count}
 use Rattle.layout.proofs.Held.{Held, Facts}
 use Rattle.layout.proofs.Running.{Running}
-use Rattle.register.proofs.Well.{run-keeps, run-first, run-held}
+use Rattle.register.proofs.Well.{run-keeps, run-held}
 use Rattle.ladders.specs.Writing.{rowsIn}
 use Rattle.ladders.proofs.Ladders.{rows-append}
 
@@ -74,7 +71,7 @@ waits-on R b past (w ∷ ws) k m p e =
 module _ (cal bs : List ℕ) (size : length bs ≡ registerLength) (run : Running cal bs) where
   abbrev pub old : Body
   old = record {
-    at = record { day = at16 bs 2 };
+    at = momentOf bs;
     waiting = readPlaces (getD bs 1 0) (drop 8 bs);
     rows = readRows (at16 bs 4) (drop 136 bs);
   }
@@ -82,9 +79,6 @@ module _ (cal bs : List ℕ) (size : length bs ≡ registerLength) (run : Runnin
   pub well : Facts (rules cal) old
   unfolding bodyOf
   well = run .well
-
-  pub day-was : at16 bs 2 < dayCount
-  day-was = let l = run-first cal bs size run in live-day cal (at16 bs 2) (omega arith)
 
   pub row-count : length (old .rows) ≡ at16 bs 4
   row-count = rows-count (at16 bs 4) (drop 136 bs)
@@ -98,13 +92,13 @@ module _ (cal bs : List ℕ) (size : length bs ≡ registerLength) (run : Runnin
       ap (drop 136) (run .written)
       ∙ drop-at (padded 128 (placesBytes (old .waiting))) (padded 11128 (rowsBytes (old .rows))) 128 (padded-length 128 (placesBytes (old .waiting)) (omega arith))
 
-  pub holds : Held (firstLive cal (at16 bs 2)) (old .rows)
+  pub holds : Held (firstAt cal (momentOf bs)) (old .rows)
   unfolding bodyOf
   holds = run-held cal bs size run
 
-  pub waits-next : (m p : ℕ) → elem p (waitingOf m (old .waiting)) ≡ true → elem p (gridOf (tierOf (firstLive cal (nextSession cal (at16 bs 2))) m)) ≡ true
-  unfolding rules firstAt tierAt
+  pub waits-next : (m p : ℕ) → elem p (waitingOf m (old .waiting)) ≡ true → elem p (gridOf (tierOf (firstAt cal (next (rules cal) (momentOf bs))) m)) ≡ true
+  unfolding rules tierAt
   waits-next m p e = on (waits-on (rules cal) old [] (old .waiting) (well .waits) m p e)
     where
-      on : elem p (rules cal .grid (next (rules cal) (old .at)) m) ≡ true → elem p (gridOf (tierOf (firstLive cal (nextSession cal (at16 bs 2))) m)) ≡ true
+      on : elem p (rules cal .grid (next (rules cal) (old .at)) m) ≡ true → elem p (gridOf (tierOf (firstAt cal (next (rules cal) (momentOf bs))) m)) ≡ true
       on x = x

@@ -7,10 +7,12 @@ use native.Mathlib.Omega.{arith}
 use lib.ListN.{length, take, drop, replicate, length-append, length-drop}
 use lib.Seq.{sets, sets-eq, length-take-le, drop-drop, drop-at}
 use borrow.Rule.Slice.PartMut.{putMid}
+use Rattle.rules.specs.Rules.{Moment}
 use Rattle.layout.specs.Rows.{Row}
+use Rattle.layout.specs.Register.{running}
 use Rattle.layout.specs.Bytes.{registerLength, placesBytes, rowsBytes, padded, bodyBytes, bytesOf}
 use Rattle.base.specs.Words.{two}
-use Rattle.listing.specs.Writing.{quiet, headBytes}
+use Rattle.listing.specs.Writing.{headBytes, quietBytes}
 
 -- the eight bytes over a head of which the places are cleared
 pub head-is : (d n : ℕ) (xs zs : List ℕ) → 136 ≤ length xs → zs ≡ replicate (length (take 128 (drop 8 xs))) 0
@@ -27,13 +29,13 @@ head-is d n xs zs h e =
     ∙ rw (drop-at (take 8 xs) (replicate 128 0 ++ drop 136 xs) 8 a))
 
 -- a head over rows is the register in which nothing waits
-pub quiet-is : (d : ℕ) (rows : List Row) → headBytes d (length rows) ++ padded 11128 (rowsBytes rows) ≡ bytesOf (quiet d rows)
+pub quiet-is : (x : Moment) (rows : List Row) → quietBytes (x .day) rows ≡ bytesOf (running (record { at = x; waiting = []; rows = rows }))
 unfolding bytesOf bodyBytes headBytes padded placesBytes two
-quiet-is d rows = refl
+quiet-is x rows = refl
 
 pub listed-head : (d : ℕ) (rows : List Row) (end : ℕ) (start mid out : List ℕ) → length start ≡ registerLength → end ≡ 136 + 8 * length rows
     → mid ≡ take 136 start ++ padded 11128 (rowsBytes rows) → out ≡ headBytes d ((end - 136) / 8) ++ drop 136 mid
-    → ((end - 136) / 8 ≡ length rows) × (out ≡ bytesOf (quiet d rows))
+    → ((end - 136) / 8 ≡ length rows) × (out ≡ quietBytes d rows)
 listed-head d rows end start mid out s e m o =
     let n : (end - 136) / 8 ≡ length rows = omega arith in
-    (n, o ∙ rw (n, m, drop-at (take 136 start) (padded 11128 (rowsBytes rows)) 136 (length-take-le 136 start (omega arith))) (quiet-is d rows))
+    (n, o ∙ rw (n, m, drop-at (take 136 start) (padded 11128 (rowsBytes rows)) 136 (length-take-le 136 start (omega arith))))

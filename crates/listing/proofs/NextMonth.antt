@@ -1,4 +1,4 @@
--- From a session to the next the first live month stays or moves on by one, and the other months stay live.
+-- Where the first live month moves on by one, the other months stay live.
 -- Assumes nothing.
 use mathlib.Core.Path.{_≡_, refl, sym, _∙_}
 use mathlib.Core.Bool.{true, false≢true}
@@ -7,39 +7,14 @@ use Prim.Native.Nat.{ℕ, _+_, _*_, _/_, _≤_, _<_}
 use native.Mathlib.Omega.{arith}
 use lib.Dec.{eqb}
 use lib.ListN.{length, getD}
-use borrow.Author.Tests.{eqb-true, le-leb}
-use Rattle.base.specs.Search.{firstIn}
+use borrow.Author.Tests.{eqb-true}
 use Rattle.base.specs.Lists.{elem}
-use Rattle.base.proofs.Tests.{byLe, clash, or-e}
-use Rattle.base.proofs.SearchLaws.{first-before}
+use Rattle.base.proofs.Tests.{byLe, or-e}
 use Rattle.base.proofs.Rising.{risesAll, rises-all}
-use Rattle.dates.specs.Months.{monthCount, dayCount}
-use Rattle.calendar.specs.Calendar.{session, Passes, expiryOf, nextSession}
-use Rattle.calendar.specs.Live.{unexpired, firstLive, nextQuarter, liveMonths}
-use Rattle.calendar.proofs.Laws.{expiry-session, expiry-ascends}
-use Rattle.calendar.proofs.LiveLaws.{live-unexpired, quarter-is}
-use Rattle.rules.specs.Rules.{lastFirstMonth}
+use Rattle.calendar.specs.Live.{nextQuarter, liveMonths}
+use Rattle.calendar.proofs.LiveLaws.{quarter-is}
 use Rattle.rules.proofs.RulebookLaws.{live-rises}
 use Rattle.listing.proofs.Plans.{elem-at}
-
--- a month is live, or a month before it, until it expires
-by-expiry : (cal : List ℕ) (day m : ℕ) → day ≤ expiryOf cal m → firstLive cal day ≤ m
-unfolding firstLive unexpired
-by-expiry cal day m u =
-    byLe (firstLive cal day) m (λ k. k)
-    (λ k. clash (unexpired cal day m) (le-leb day (expiryOf cal m) u) (first-before (unexpired cal day) 0 monthCount m (omega arith) k))
-
--- the next session comes by the expiry date of the month behind, which is a session
-pub moves-by-one : (cal : List ℕ) → Passes cal → (d : ℕ) → firstLive cal d ≤ lastFirstMonth → firstLive cal (nextSession cal d) ≤ firstLive cal d + 1
-unfolding nextSession
-moves-by-one cal p d h =
-    let f : ℕ = firstLive cal d in
-    let e : ℕ = expiryOf cal (f + 1) in
-    let l : d < e = omega (arith, live-unexpired cal d (omega arith), expiry-ascends cal p f (f + 1) (omega arith) (omega arith)) in
-    let n : firstIn (session cal) (d + 1) dayCount ≤ e =
-    byLe (firstIn (session cal) (d + 1) dayCount) e (λ k. k)
-    (λ k. clash (session cal e) (expiry-session cal p (f + 1) (omega arith)) (first-before (session cal) (d + 1) dayCount e (omega arith) k)) in
-    by-expiry cal (firstIn (session cal) (d + 1) dayCount) (f + 1) n
 
 -- the live months behind the first
 abbrev pub behind : ℕ → List ℕ

@@ -14,8 +14,9 @@ use Rattle.base.proofs.Tests.{byBool, or-e}
 use Rattle.base.proofs.ListLaws.{elem-here, elem-there}
 use Rattle.base.proofs.Rising.{rises, select-rises}
 use Rattle.dates.specs.Months.{monthCount}
-use Rattle.calendar.specs.Live.{firstLive, liveMonths, tierOf}
+use Rattle.calendar.specs.Live.{liveMonths, tierOf}
 use Rattle.grid.specs.Grid.{gridOf}
+use Rattle.rules.specs.Rules.{Moment}
 use Rattle.rules.specs.Rulebook.{firstAt, tierAt, rules}
 use Rattle.rules.proofs.Laws.{total}
 use Rattle.rules.proofs.RulebookLaws.{grid-rises, laws}
@@ -50,26 +51,26 @@ index-of (y ∷ ys) x e =
     (λ t. (0, omega arith, sym (eqb-true x y t)))
     (λ t. let k = index-of ys x t in let l = k .1 in (suc (k .0), omega arith, k .2))
 
--- the plans of the months that are live on a day
-module _ (cal : List ℕ) (day : ℕ) (F : ℕ → Plan) (tier-is : (m : ℕ) → F m .tier ≡ tierOf (firstLive cal day) m)
-    (spanned : (m : ℕ) → elem m (liveMonths (firstLive cal day)) ≡ true → Spanned (F m)) where
-  in-grid : (m : ℕ) → length (pricesIn (F m)) ≤ length (gridOf (tierOf (firstLive cal day) m))
+-- the plans of the months that are live at a moment
+module _ (cal : List ℕ) (x : Moment) (F : ℕ → Plan) (tier-is : (m : ℕ) → F m .tier ≡ tierOf (firstAt cal x) m)
+    (spanned : (m : ℕ) → elem m (liveMonths (firstAt cal x)) ≡ true → Spanned (F m)) where
+  in-grid : (m : ℕ) → length (pricesIn (F m)) ≤ length (gridOf (tierOf (firstAt cal x) m))
   unfolding pricesIn
   in-grid m = rw (← tier-is m) (select-count (within (F m .span .low) (F m .span .high)) (gridOf (F m .tier)))
 
-  all-fit : total (λ m. pricesIn (F m)) (liveMonths (firstLive cal day)) ≤ 1391
-  unfolding rules firstAt tierAt
+  all-fit : total (λ m. pricesIn (F m)) (liveMonths (firstAt cal x)) ≤ 1391
+  unfolding rules tierAt
   all-fit =
-      let a = total-le (λ m. pricesIn (F m)) (λ m. gridOf (tierOf (firstLive cal day) m)) (liveMonths (firstLive cal day)) in-grid in
-      omega (arith, a, laws cal .capacity (record { day = day }))
+      let a = total-le (λ m. pricesIn (F m)) (λ m. gridOf (tierOf (firstAt cal x) m)) (liveMonths (firstAt cal x)) in-grid in
+      omega (arith, a, laws cal .capacity x)
 
-  pub ready : firstLive cal day ≤ monthCount → (plans : ℕ → Plan) → At F plans 0 (liveMonths (firstLive cal day)) → Ready (firstLive cal day) plans
+  pub ready : firstAt cal x ≤ monthCount → (plans : ℕ → Plan) → At F plans 0 (liveMonths (firstAt cal x)) → Ready (firstAt cal x) plans
   unfolding liveMonths
   ready h plans at = record {
     first-in = h;
     spanned = λ i l.
-        let m : ℕ = getD (liveMonths (firstLive cal day)) i 0 in
+        let m : ℕ = getD (liveMonths (firstAt cal x)) i 0 in
         let e : plans i ≡ F m = rw (zero-add i) at (at i l) in
-        rw e (spanned m (elem-at (liveMonths (firstLive cal day)) i l));
-    room = omega (arith, count-over F plans 0 (liveMonths (firstLive cal day)) at, all-fit);
+        rw e (spanned m (elem-at (liveMonths (firstAt cal x)) i l));
+    room = omega (arith, count-over F plans 0 (liveMonths (firstAt cal x)) at, all-fit);
   }

@@ -5,7 +5,6 @@ use mathlib.Core.Bool.{Bool, true, false, cond, not, _&&_}
 use mathlib.Core.Option.{none, some}
 use mathlib.Core.List.{List, [], _∷_, _++_}
 use Prim.Native.Nat.{ℕ, suc, _+_, _-_, _*_, _≤_, _<_, min, max}
-use native.Mathlib.Nat.{le-of-lt}
 use native.Mathlib.Omega.{arith}
 use lib.Dec.{eqb}
 use lib.ListN.{length, getD, take, drop, length-append}
@@ -16,20 +15,22 @@ use Rattle.base.specs.declared.Tier.the-variants.{N}
 use Rattle.base.proofs.ListLaws.{elem-here, elem-there, within-i, within-l, within-r, elem-select, least-le, greatest-ge, least-P, greatest-P}
 use Rattle.base.proofs.Rising.{rises-tail, risesAll, select-rises}
 use Rattle.calendar.specs.Calendar.{nextSession}
-use Rattle.calendar.specs.Live.{firstLive, liveMonths, tierOf}
+use Rattle.calendar.specs.Live.{liveMonths, tierOf}
 use Rattle.calendar.proofs.Laws.{next-later}
-use Rattle.calendar.proofs.LiveLaws.{live-mono, tier-n}
+use Rattle.calendar.proofs.LiveLaws.{tier-n}
 use Rattle.grid.specs.Grid.{gridOf, requiredLow, requiredHigh}
 use Rattle.grid.specs.Numbers.{price, numberOf}
 use Rattle.grid.proofs.Prices.{price-strict, number-price}
 use Rattle.grid.proofs.Grids.{number-on}
 use Rattle.grid.proofs.GridLaws.{required-low, required-high}
+use Rattle.rules.specs.Rules as Rules
 use Rattle.rules.specs.Rules.{Moment, Rules}
-use Rattle.rules.specs.Rulebook.{firstAt, tierAt, rules}
-use Rattle.rules.proofs.RulebookLaws.{laws, grid-rises, live-rises}
+use Rattle.rules.specs.Rulebook.{moved, firstAt, tierAt, rules}
+use Rattle.rules.proofs.RulebookLaws.{laws, grid-rises, live-rises, first-later}
+use Rattle.rules.proofs.NextLaws.{moves-by-one}
 use Rattle.layout.specs.Rows.{Entry, newEntry, Row, ladder, rowsOf, find}
 use Rattle.layout.specs.Register.{Body, running, waitingOf, spanLow, spanHigh, listed}
-use Rattle.layout.specs.Bytes.{registerLength, mostRows, rowsBytes, padded, bytesOf}
+use Rattle.layout.specs.Bytes.{registerLength, mostRows, rowsBytes, padded, bytesOf, momentOf}
 use Rattle.base.specs.Words.{at16}
 use Rattle.layout.specs.Spans.{spansOf, spanIn}
 use Rattle.layout.proofs.RowLaws.{rowsOf-same, ladder-length}
@@ -48,14 +49,14 @@ use Rattle.calls.specs.Listing.{kept, closeLow, closeHigh, newLow, newHigh, new
 use Rattle.calls.specs.Answers as Calls
 use Rattle.calls.specs.Answers.{count, rowsHeld, removed}
 use Rattle.calls.specs.declared.Listed.{Listed}
-use Rattle.listing.specs.Writing.{answer, quiet, headBytes, Taken, droppedRows}
+use Rattle.listing.specs.Writing.{answer, headBytes, quietBytes, Taken, droppedRows}
 use Rattle.listing.proofs.Head.{quiet-is}
 use Rattle.calls.proofs.CountLaws.{count-append, on, none-yet, of, ladder-all, rows-none}
 use Rattle.listing.proofs.Counting.{count-months}
 use Rattle.listing.proofs.Plans.{prices-rise, index-of, ready}
 use Rattle.listing.proofs.Before as B
 use Rattle.listing.proofs.Before.{rows-behind, old, well, rows-laid, holds, waits-next}
-use Rattle.listing.proofs.NextMonth.{moves-by-one, behind, stay-live, live-from}
+use Rattle.listing.proofs.NextMonth.{behind, stay-live, live-from}
 
 -- the lower and the higher of two numbers is one of them
 min-P : (P : ℕ → Type 0) (i j : ℕ) → P i → P j → P (min i j)
@@ -64,7 +65,7 @@ min-P P i j p q = byLe i j (λ l. let e : min i j ≡ i = omega arith in rw e p)
 max-P : (P : ℕ → Type 0) (i j : ℕ) → P i → P j → P (max i j)
 max-P P i j p q = byLe i j (λ l. let e : max i j ≡ j = omega arith in rw e q) (λ l. let e : max i j ≡ i = omega arith in rw e p)
 
-module _ (cal bs : List ℕ) (day close : ℕ) (size : length bs ≡ registerLength) (run : Running cal bs) (ok : Taken cal day close) (next : day ≡ nextSession cal (at16 bs 2)) where
+module _ (cal bs : List ℕ) (day close : ℕ) (size : length bs ≡ registerLength) (run : Running cal bs) (ok : Taken cal (moved (momentOf bs) day) close) (next : day ≡ nextSession cal (momentOf bs .day)) where
   abbrev R : Rules
   R = rules cal
 
@@ -73,25 +74,30 @@ module _ (cal bs : List ℕ) (day close : ℕ) (size : length bs ≡ registerLen
   b = old cal bs size run
 
   abbrev pub x : Moment
-  x = record { day = day }
+  x = moved (momentOf bs) day
 
   abbrev pub f : ℕ
-  f = firstLive cal (at16 bs 2)
+  f = firstAt cal (momentOf bs)
 
   abbrev pub g : ℕ
-  g = firstLive cal day
+  g = firstAt cal x
 
   abbrev pub h : Held f (b .rows)
   h = holds cal bs size run
 
-  pub later : at16 bs 2 < day
-  later = rw next (next-later cal (at16 bs 2))
+  -- its moment is the next one
+  x-next : x ≡ Rules.next R (momentOf bs)
+  unfolding rules
+  x-next = ap (moved (momentOf bs)) next
+
+  pub later : momentOf bs .day < day
+  later = rw next (next-later cal (momentOf bs .day))
 
   pub not-before : f ≤ g
-  not-before = live-mono cal (at16 bs 2) day (le-of-lt later)
+  not-before = rw x-next (first-later cal (momentOf bs))
 
   pub by-one : g ≤ f + 1
-  by-one = rw next (moves-by-one cal (ok .passes) (at16 bs 2) (run-first cal bs size run))
+  by-one = rw x-next (moves-by-one cal (ok .passes) (momentOf bs) (run-first cal bs size run))
 
   -- ---- a month's pairs: what it held, that widened by the close, and its span
   abbrev heldAt : ℕ → List ℕ
@@ -120,11 +126,11 @@ module _ (cal bs : List ℕ) (day close : ℕ) (size : length bs ≡ registerLen
     held-is = span-in b m (liveMonths f) ∙ rw e
 
     wide-is : wideAt m ≡ closeLow R b x close m ∷ closeHigh R b x close m ∷ []
-    unfolding closePair closeLow closeHigh rules tierAt firstAt
+    unfolding closePair closeLow closeHigh rules tierAt
     wide-is = rw (held-is, some-low)
 
     live-here : elem m (R .live (b .at)) ≡ true
-    unfolding rules firstAt
+    unfolding rules
     live-here = e
 
     new-live : newAt m ≡ newLow R b x close m ∷ newHigh R b x close m ∷ []
@@ -136,11 +142,11 @@ module _ (cal bs : List ℕ) (day close : ℕ) (size : length bs ≡ registerLen
     held-none = span-in b m (liveMonths f) ∙ rw e
 
     fresh-here : elem m (R .live (b .at)) ≡ false
-    unfolding rules firstAt
+    unfolding rules
     fresh-here = e
 
     new-fresh : newAt m ≡ newLow R b x close m ∷ newHigh R b x close m ∷ []
-    unfolding newPair closePair newLow newHigh rules tierAt firstAt
+    unfolding newPair closePair newLow newHigh rules tierAt
     new-fresh = rw (held-none, e)
 
   pub new-is : (m : ℕ) → newAt m ≡ newLow R b x close m ∷ newHigh R b x close m ∷ []
@@ -194,8 +200,8 @@ module _ (cal bs : List ℕ) (day close : ℕ) (size : length bs ≡ registerLen
     module _ (s : elem m (liveMonths g) ≡ true) where
       -- its grid is as fine as it was, or finer
       finer : (p : ℕ) → elem p (gridOf (tierOf f m)) ≡ true → elem p (gridOf (tierOf g m)) ≡ true
-      unfolding rules firstAt tierAt
-      finer p q = rw next (laws cal .finer (b .at) m p refl e (rw next at s) q)
+      unfolding rules tierAt
+      finer p q = rw x-next (laws cal .finer (b .at) m p refl e (rw x-next at s) q)
 
       -- its old ends, what the close requires and what was announced are all on it
       low-was : elem (spanLow b m) (gridOf (tierOf g m)) ≡ true
@@ -205,20 +211,20 @@ module _ (cal bs : List ℕ) (day close : ℕ) (size : length bs ≡ registerLen
       high-was = finer (spanHigh b m) (rw (high-is m e) (number-on (tierOf f m) (h .high m) (h .high-on m e)))
 
       low-on : elem (newLow R b x close m) (gridOf (tierOf g m)) ≡ true
-      unfolding newLow closeLow rules firstAt tierAt
+      unfolding newLow closeLow rules tierAt
       low-on =
           rw e
           (least-P (λ p. elem p (gridOf (tierOf g m)) ≡ true) (closeLow R b x close m) (waitingOf m (b .waiting))
           (min-P (λ p. elem p (gridOf (tierOf g m)) ≡ true) (spanLow b m) (requiredLow (tierOf g m) close) low-was (required-low (tierOf g m) close .0))
-          (λ p q. rw next (waits-next cal bs size run m p q)))
+          (λ p q. rw x-next (waits-next cal bs size run m p q)))
 
       high-on : elem (newHigh R b x close m) (gridOf (tierOf g m)) ≡ true
-      unfolding newHigh closeHigh rules firstAt tierAt
+      unfolding newHigh closeHigh rules tierAt
       high-on =
           rw e
           (greatest-P (λ p. elem p (gridOf (tierOf g m)) ≡ true) (closeHigh R b x close m) (waitingOf m (b .waiting))
           (max-P (λ p. elem p (gridOf (tierOf g m)) ≡ true) (spanHigh b m) (requiredHigh (tierOf g m) close) high-was (required-high (tierOf g m) close .0))
-          (λ p q. rw next (waits-next cal bs size run m p q)))
+          (λ p q. rw x-next (waits-next cal bs size run m p q)))
 
       -- and every price that it had is listed still
       pub still-listed : (p : ℕ) → elem p (ladderOf f (h .low) (h .high) m) ≡ true → elem p (pricesIn (F m)) ≡ true
@@ -235,11 +241,11 @@ module _ (cal bs : List ℕ) (day close : ℕ) (size : length bs ≡ registerLen
 
   -- ---- the plans can be carried out
   fresh-low : (m : ℕ) → elem m (liveMonths f) ≡ false → elem (newLow R b x close m) (gridOf (tierOf g m)) ≡ true
-  unfolding newLow rules firstAt tierAt
+  unfolding newLow rules tierAt
   fresh-low m e = rw e (required-low (tierOf g m) close .0)
 
   fresh-high : (m : ℕ) → elem m (liveMonths f) ≡ false → elem (newHigh R b x close m) (gridOf (tierOf g m)) ≡ true
-  unfolding newHigh rules firstAt tierAt
+  unfolding newHigh rules tierAt
   fresh-high m e = rw e (required-high (tierOf g m) close .0)
 
   spanned : (m : ℕ) → elem m (liveMonths g) ≡ true → Spanned (F m)
@@ -249,7 +255,7 @@ module _ (cal bs : List ℕ) (day close : ℕ) (size : length bs ≡ registerLen
   }
 
   pub session-ready : Ready g plans
-  session-ready = let l = ok .live in ready cal day F (λ m. refl) spanned (omega arith) plans plans-at
+  session-ready = let l = ok .live in ready cal x F (λ m. refl) spanned (omega arith) plans plans-at
 
   -- ---- the old rows that stay: those of the months that are live still
   abbrev G : ℕ → List ℕ
@@ -324,11 +330,11 @@ module _ (cal bs : List ℕ) (day close : ℕ) (size : length bs ≡ registerLen
   after = sessionBody R b x close
 
   listed-is : (m : ℕ) → pricesIn (F m) ≡ listed R x (newLow R b x close) (newHigh R b x close) m
-  unfolding pricesIn listed rules firstAt tierAt
+  unfolding pricesIn listed rules tierAt
   listed-is m = rw (new-is m)
 
   none-today : count (on day) (b .rows) ≡ 0
-  none-today = none-yet day (at16 bs 2) (b .rows) later (well cal bs size run .entries)
+  none-today = none-yet day (momentOf bs .day) (b .rows) later (well cal bs size run .entries)
 
   module _ (stay : List ℕ) (gone : List Row) (s : Stays stay gone) where
     abbrev staying : List Row
@@ -351,7 +357,7 @@ module _ (cal bs : List ℕ) (day close : ℕ) (size : length bs ≡ registerLen
     from-is = from-over F plans 0 (liveMonths g) staying plans-at
 
     rows-new : laddersFrom plans 0 6 staying ≡ after .rows
-    unfolding sessionBody rules firstAt
+    unfolding sessionBody rules moved
     rows-new =
         from-is ∙ over .0
         ∙ rowsOf-same (liveMonths g) (λ m. pricesIn (F m)) (listed R x (newLow R b x close) (newHigh R b x close)) _ _ (λ m e. listed-is m) (λ m p e q. entry-is m p e)
@@ -382,7 +388,7 @@ module _ (cal bs : List ℕ) (day close : ℕ) (size : length bs ≡ registerLen
 
   answers : (new gone rows : ℕ) → new ≡ count (on day) (after .rows) → gone ≡ count (of (λ m. not (elem m (liveMonths g)))) (b .rows) → rows ≡ length (after .rows)
       → _≡_ {A = Listed} (record { number = 0; added = new; removed = gone; rows = rows }) answered
-  unfolding Calls.added removed rowsHeld sessionBody rules firstAt
+  unfolding Calls.added removed rowsHeld sessionBody rules moved
   answers new gone rows a r l = λ i. record { number = 0; added = a i; removed = r i; rows = l i }
 
   abbrev firstSpan : List ℕ
@@ -399,11 +405,11 @@ module _ (cal bs : List ℕ) (day close : ℕ) (size : length bs ≡ registerLen
     abbrev listedRows : List Row
     listedRows = laddersFrom plans 0 6 (rowsIn (take (8 * (at16 bs 4 - droppedRows f g firstSpan)) (drop (136 + 8 * droppedRows f g firstSpan) bs)))
 
-    pub relisted : count₁ ≡ length listedRows → out ≡ bytesOf (quiet day listedRows)
+    pub relisted : count₁ ≡ length listedRows → out ≡ quietBytes day listedRows
         → (at16 bs 4 ≤ count₁ + droppedRows f g firstSpan)
         × (_≡_ {A = Listed} (record { number = 0; added = count₁ + droppedRows f g firstSpan - at16 bs 4; removed = droppedRows f g firstSpan; rows = count₁ }) answered)
         × (out ≡ bytesOf (running after))
-    unfolding sessionBody
+    unfolding sessionBody moved
     relisted c o =
         let k = stays in
         let n = row-count (k .0) (k .1) (k .2) in
@@ -415,7 +421,7 @@ module _ (cal bs : List ℕ) (day close : ℕ) (size : length bs ≡ registerLen
         let l : count₁ ≡ length (after .rows) = c ∙ ap length r in (
           omega (arith, d, n, l, a),
           answers (count₁ + droppedRows f g firstSpan - at16 bs 4) (droppedRows f g firstSpan) count₁ (omega (arith, d, n, l, a)) (d ∙ sym (removed-is (k .0) (k .1) (k .2))) l,
-          o ∙ ap (λ (rs : List Row). bytesOf (quiet day rs)) r,
+          o ∙ ap (quietBytes day) r ∙ quiet-is x (after .rows),
         )
 
   -- the rows left as they are
@@ -434,13 +440,13 @@ module _ (cal bs : List ℕ) (day close : ℕ) (size : length bs ≡ registerLen
         (sym (rw (new-is m, held-is m (was-live m e)) at l), sym (rw (new-is m, held-is m (was-live m e)) at u))
 
     prices-stay : (m : ℕ) → elem m (liveMonths g) ≡ true → listed R x (newLow R b x close) (newHigh R b x close) m ≡ G m
-    unfolding listed rules firstAt tierAt
+    unfolding listed rules tierAt
     prices-stay m e =
         let k = span-stays m e in
         rw (k .0, k .1, low-is m (was-live m e), high-is m (was-live m e), q)
 
     unchanged : after .rows ≡ b .rows
-    unfolding sessionBody kept rules firstAt
+    unfolding sessionBody kept rules
     unchanged =
         rowsOf-same (liveMonths g) (listed R x (newLow R b x close) (newHigh R b x close)) G _ (h .entry) prices-stay
         (λ m p e w. rw (found f (b .rows) h m p, was-live m e, w))
@@ -449,11 +455,11 @@ module _ (cal bs : List ℕ) (day close : ℕ) (size : length bs ≡ registerLen
 
     pub head-only : (out : List ℕ) → out ≡ headBytes day (at16 bs 4) ++ drop 136 bs
         → (_≡_ {A = Listed} (record { number = 0; added = 0; removed = 0; rows = at16 bs 4 }) answered) × (out ≡ bytesOf (running after))
-    unfolding sessionBody
+    unfolding sessionBody moved
     head-only out o =
         let n : at16 bs 4 ≡ length (b .rows) = sym (B.row-count cal bs size run) in (
           answers 0 0 (at16 bs 4) (sym (ap (count (on day)) unchanged ∙ none-today)) (sym (removed-is (liveMonths f) [] (stays-all q))) (n ∙ ap length (sym unchanged)),
-          o ∙ ap (λ (k : List ℕ). headBytes day (at16 bs 4) ++ k) (rows-laid cal bs size run) ∙ ap (λ (k : ℕ). headBytes day k ++ padded 11128 (rowsBytes (b .rows))) n ∙ quiet-is day (b .rows) ∙ ap (λ (rs : List Row). bytesOf (quiet day rs)) (sym unchanged),
+          o ∙ ap (λ (k : List ℕ). headBytes day (at16 bs 4) ++ k) (rows-laid cal bs size run) ∙ ap (λ (k : ℕ). headBytes day k ++ padded 11128 (rowsBytes (b .rows))) n ∙ ap (quietBytes day) (sym unchanged) ∙ quiet-is x (after .rows),
         )
 
   -- ---- the same of what the code takes up, each thing as it was given to it
@@ -468,11 +474,11 @@ module _ (cal bs : List ℕ) (day close : ℕ) (size : length bs ≡ registerLen
     pub new-are : new ≡ newSpans (b .waiting) months held wide
 
 -- where these are taken up, the months can be listed, and the answer is a session's
-module _ {cal bs : List ℕ} {day close : ℕ} {size : length bs ≡ registerLength} {run : Running cal bs} {ok : Taken cal day close} {next : day ≡ nextSession cal (at16 bs 2)}
+module _ {cal bs : List ℕ} {day close : ℕ} {size : length bs ≡ registerLength} {run : Running cal bs} {ok : Taken cal (moved (momentOf bs) day) close} {next : day ≡ nextSession cal (momentOf bs .day)}
     {spans : List (List ℕ)} {before first : ℕ} {months olds : List ℕ} {held wide new : List (List ℕ)}
     (u : TakenUp cal bs day close size run ok next spans before first months olds held wide new) where
   abbrev dropped₀ : ℕ
-  dropped₀ = droppedRows (firstLive cal (at16 bs 2)) (firstLive cal day) (firstSpan cal bs day close size run ok next)
+  dropped₀ = droppedRows (firstAt cal (momentOf bs)) (firstAt cal (moved (momentOf bs) day)) (firstSpan cal bs day close size run ok next)
 
   abbrev answer₀ : Listed
   answer₀ = answered cal bs day close size run ok next
@@ -499,7 +505,7 @@ module _ {cal bs : List ℕ} {day close : ℕ} {size : length bs ≡ registerLen
     pub up-within : dropped ≤ rows
     up-within = omega (arith, n, d, up-dropped, dropped-le cal bs day close size run ok next)
 
-    pub up-relisted : {count₁ : ℕ} {out : List ℕ} → count₁ ≡ length (listed₀ rows dropped) → out ≡ bytesOf (quiet day (listed₀ rows dropped))
+    pub up-relisted : {count₁ : ℕ} {out : List ℕ} → count₁ ≡ length (listed₀ rows dropped) → out ≡ quietBytes day (listed₀ rows dropped)
         → (rows ≤ count₁ + dropped) × (_≡_ {A = Listed} (record { number = 0; added = count₁ + dropped - rows; removed = dropped; rows = count₁ }) answer₀) × (out ≡ bytes₀)
     up-relisted {count₁} {out} =
         rw (u .new-are, u .wide-are, u .held-are, u .olds-are, u .months-are, n, d, up-dropped, u .spans-are, u .before-is, u .first-is)

@@ -2,20 +2,19 @@
 -- Assumes nothing.
 use mathlib.Core.Path.{_≡_}
 use mathlib.Core.Bool.{true, cond, not}
-use mathlib.Core.List.{List, [], _∷_}
+use mathlib.Core.List.{List, [], _∷_, _++_}
 use Prim.Native.Nat.{ℕ, suc, _-_, _*_, _≤_}
 use lib.Dec.{eqb, ltb}
 use lib.ListN.{length, getD, replicate}
 use Rattle.base.specs.Causes.{cause, firstOf}
-use Rattle.calendar.specs.Calendar.{Passes, calendarCause, firstLacking}
-use Rattle.calendar.specs.Live.{firstLive}
+use Rattle.calendar.specs.Calendar.{Passes}
 use Rattle.grid.specs.Grid.{closeTaken}
 use Rattle.grid.specs.Numbers.{numberOf}
-use Rattle.rules.specs.Rules.{Rules, lastFirstMonth}
-use Rattle.rules.specs.Rulebook.{rules}
+use Rattle.rules.specs.Rules.{Moment, Rules, lastFirstMonth}
+use Rattle.rules.specs.Rulebook.{moved, firstAt, rules}
 use Rattle.layout.specs.Rows.{Row}
-use Rattle.layout.specs.Register.{mostWaiting, Body, Reg, running}
-use Rattle.layout.specs.Bytes.{registerLength, bodyOf, allZero}
+use Rattle.layout.specs.Register.{mostWaiting, Body, Reg}
+use Rattle.layout.specs.Bytes.{mostRows, rowsBytes, padded, momentOf, bodyOf}
 use Rattle.base.specs.Words.{two}
 use Rattle.calls.specs.Listing.{sessionBody}
 use Rattle.calls.specs.Answers.{rowsHeld, added, removed}
@@ -25,9 +24,9 @@ use Rattle.calls.specs.declared.Listed.{Listed}
 abbrev pub refusal : ℕ → ℕ → Listed
 refusal number month = record { number = number; added = month; removed = 0; rows = 0 }
 
--- causes 20 and 21, for a start or a session on a day
-unfoldable pub listingCause : List ℕ → ℕ → ℕ → ℕ
-listingCause calendar day close = firstOf (cause (ltb lastFirstMonth (firstLive calendar day)) 20 ∷ cause (not (closeTaken close)) 21 ∷ [])
+-- causes 20 and 21 of a start or a session, by its first live month and its close
+unfoldable pub listingCause : ℕ → ℕ → ℕ
+listingCause first close = firstOf (cause (ltb lastFirstMonth first) 20 ∷ cause (not (closeTaken close)) 21 ∷ [])
 
 -- ---- a start or a session that is not refused
 
@@ -35,23 +34,23 @@ listingCause calendar day close = firstOf (cause (ltb lastFirstMonth (firstLive 
 abbrev pub answer : Rules → Reg → Reg → Listed
 answer R old new = record { number = 0; added = added new; removed = removed R old new; rows = length (rowsHeld new) }
 
--- a register in which nothing waits
-abbrev pub quiet : ℕ → List Row → Reg
-quiet day rows = running (record { at = record { day = day }; waiting = []; rows = rows })
-
--- its head: status, none waiting, day, row count, two zeros, and no announcement
+-- the head of a register in which nothing waits: status, none waiting, day, row count, two zeros, and no announcement
 unfoldable pub headBytes : ℕ → ℕ → List ℕ
 headBytes day count = 1 ∷ 0 ∷ two day (two count (0 ∷ 0 ∷ replicate (4 * mostWaiting) 0))
 
--- a day and a close that are taken
-pub record Taken (calendar : List ℕ) (day close : ℕ) : Type 0 where
+-- and behind it its rows
+abbrev pub quietBytes : ℕ → List Row → List ℕ
+quietBytes day rows = headBytes day (length rows) ++ padded (8 * mostRows) (rowsBytes rows)
+
+-- a moment and a close that are taken
+pub record Taken (calendar : List ℕ) (x : Moment) (close : ℕ) : Type 0 where
   pub passes : Passes calendar
-  pub live : firstLive calendar day ≤ lastFirstMonth
+  pub live : firstAt calendar x ≤ lastFirstMonth
   pub close-taken : closeTaken close ≡ true
 
 -- the body that a session leaves
 abbrev pub sessionOf : List ℕ → List ℕ → ℕ → ℕ → Body
-sessionOf calendar bs day close = sessionBody (rules calendar) (bodyOf bs) (record { day = day }) close
+sessionOf calendar bs day close = sessionBody (rules calendar) (bodyOf bs) (moved (momentOf bs) day) close
 
 -- how many rows the first live month of the session before had, if it is no longer live
 unfoldable pub droppedRows : ℕ → ℕ → List ℕ → ℕ

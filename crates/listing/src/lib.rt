@@ -13,16 +13,15 @@ ghost use lib.ListN.{length, getD, take, drop};
 ghost use Rattle.dates.specs.Months.{dayCount};
 ghost use Rattle.calendar.specs.Calendar.{Passes, nextSession};
 ghost use Rattle.grid.specs.Numbers.{numberOf};
-ghost use Rattle.rules.specs.Rulebook.{rules};
+ghost use Rattle.rules.specs.Rulebook.{begun, moved, rules};
 ghost use Rattle.calls.specs.Calls as Call;
 ghost use Rattle.layout.specs.Register.{empty, running};
-ghost use Rattle.layout.specs.Bytes.{registerLength, rowsFrom, bytesOf, bodyOf};
-ghost use Rattle.base.specs.Words.{at16};
+ghost use Rattle.layout.specs.Bytes.{registerLength, rowsFrom, bytesOf, momentOf, bodyOf};
 ghost use Rattle.layout.specs.Spans.{runsWell, standingSpans};
 ghost use Rattle.ladders.specs.Writing.{rowsIn, laddersFrom, planAt, Ready};
 ghost use Rattle.calls.specs.Listing.{number, startBody};
 ghost use Rattle.calls.specs.Answers.{afterAt, listedAt};
-ghost use Rattle.listing.specs.Writing.{refusal, listingCause, answer, quiet, headBytes, Taken, sessionOf, droppedRows};
+ghost use Rattle.listing.specs.Writing.{refusal, listingCause, answer, headBytes, quietBytes, Taken, sessionOf, droppedRows};
 
 fn refused(number: u16, month: u16) -> Listed
     ensures { λ r. ⌜ r ≡ refusal number month ⌝ }
@@ -35,15 +34,11 @@ fn refused(number: u16, month: u16) -> Listed
     }
 }
 
-// Causes 20 and 21. After the calendar's last day no month is live.
-fn listing_cause(calendar: &[u8], day: u32, close: u32) -> u16
-    requires { ⌜ Passes (now calendar) ⌝ }
-    ensures { λ r. ⌜ r ≡ listingCause (now (calendar .entry)) day close ⌝ }
+// Causes 20 and 21, by the first live month.
+fn listing_cause(first: u16, close: u32) -> u16
+    ensures { λ r. ⌜ r ≡ listingCause first close ⌝ }
 {
-    if DAYS as u32 <= day {
-        return 20;
-    }
-    if LAST_FIRST_MONTH < calendar::first_live(calendar, day as u16) {
+    if LAST_FIRST_MONTH < first {
         return 20;
     }
     if grid::close_taken(close) { 0 } else { 21 }
@@ -60,12 +55,12 @@ fn start_cause(calendar: &[u8], day: u32, close: u32) -> u16
     if !calendar::has_session(calendar, day as u16) {
         return 18;
     }
-    listing_cause(calendar, day, close)
+    listing_cause(calendar::first_live(calendar, day as u16), close)
 }
 
-// A session's own causes, where the register runs.
+// A session's own causes, where the register runs. After the calendar's last day no month is live.
 fn session_cause(calendar: &[u8], register: &[u8], day: u32, close: u32) -> u16
-    requires { ⌜ Passes (now calendar) × (length (now register) ≡ registerLength) × (at16 (now register) 2 < dayCount) ⌝ }
+    requires { ⌜ Passes (now calendar) × (length (now register) ≡ registerLength) × (momentOf (now register) .day < dayCount) ⌝ }
     ensures { λ r. ⌜ r ≡ number (rules (now (calendar .entry))) (Call.session day close) (running (bodyOf (now (register .entry)))) ⌝ }
 {
     let before = base::word(register, 2);
@@ -73,7 +68,10 @@ fn session_cause(calendar: &[u8], register: &[u8], day: u32, close: u32) -> u16
     if day != next as u32 {
         return 19;
     }
-    listing_cause(calendar, day, close)
+    if DAYS <= next {
+        return 20;
+    }
+    listing_cause(calendar::first_live(calendar, next), close)
 }
 
 // Writes status, day and row count, and clears the announcements.
@@ -106,7 +104,7 @@ fn list(
     requires { ⌜ length (now register) ≡ registerLength ⌝ }
     requires { ⌜ Ready (getD months 0 0) (planAt day origin months held wide spans) ⌝ }
     ensures { λ r. ⌜ r ≡ length (laddersFrom (planAt day origin months held wide spans) 0 6 (rowsIn (now (old .entry)))) ⌝ }
-    ensures { λ _. ⌜ now (register .exit) ≡ bytesOf (quiet day (laddersFrom (planAt day origin months held wide spans) 0 6 (rowsIn (now (old .entry))))) ⌝ }
+    ensures { λ _. ⌜ now (register .exit) ≡ quietBytes day (laddersFrom (planAt day origin months held wide spans) 0 6 (rowsIn (now (old .entry)))) ⌝ }
 {
     let end = ladders::write_ladders(register, old, day, origin, months, held, wide, spans);
     let count = ((end - ROWS) / 8) as u16;
@@ -117,9 +115,9 @@ fn list(
 // A start that is not refused.
 fn list_start(calendar: &[u8], register: &mut [u8], day: u16, close: u32) -> Listed
     requires { ⌜ length (now register) ≡ registerLength ⌝ }
-    requires { ⌜ Taken (now calendar) day close ⌝ }
-    ensures { λ r. ⌜ r ≡ answer (rules (now (calendar .entry))) empty (running (startBody (rules (now (calendar .entry))) (record { day = day }) close)) ⌝ }
-    ensures { λ _. ⌜ now (register .exit) ≡ bytesOf (running (startBody (rules (now (calendar .entry))) (record { day = day }) close)) ⌝ }
+    requires { ⌜ Taken (now calendar) (begun day) close ⌝ }
+    ensures { λ r. ⌜ r ≡ answer (rules (now (calendar .entry))) empty (running (startBody (rules (now (calendar .entry))) (begun day) close)) ⌝ }
+    ensures { λ _. ⌜ now (register .exit) ≡ bytesOf (running (startBody (rules (now (calendar .entry))) (begun day) close)) ⌝ }
 {
     let first = calendar::first_live(calendar, day);
     let months = calendar::live_months(first);
@@ -175,7 +173,7 @@ fn relist(
     requires { ⌜ (length (now register) ≡ registerLength) × (dropped ≤ rows) × (rowsFrom + 8 * rows ≤ registerLength) ⌝ }
     requires { ⌜ Ready (getD months 0 0) (planAt day 1 months held wide spans) ⌝ }
     ensures { λ r. ⌜ r ≡ length (laddersFrom (planAt day 1 months held wide spans) 0 6 (rowsIn (take (8 * (rows - dropped)) (drop (rowsFrom + 8 * dropped) (now (register .entry)))))) ⌝ }
-    ensures { λ _. ⌜ now (register .exit) ≡ bytesOf (quiet day (laddersFrom (planAt day 1 months held wide spans) 0 6 (rowsIn (take (8 * (rows - dropped)) (drop (rowsFrom + 8 * dropped) (now (register .entry))))))) ⌝ }
+    ensures { λ _. ⌜ now (register .exit) ≡ quietBytes day (laddersFrom (planAt day 1 months held wide spans) 0 6 (rowsIn (take (8 * (rows - dropped)) (drop (rowsFrom + 8 * dropped) (now (register .entry)))))) ⌝ }
 {
     let copy = copied(register);
     let from = ROWS + 8 * (dropped as usize);
@@ -201,7 +199,7 @@ fn list_session(
     spans: [[u16; 2]; 6],
 ) -> Listed
     requires { ⌜ (length (now register) ≡ registerLength) × (runsWell (now calendar) (now register) ≡ true) × (spans ≡ standingSpans (now calendar) (now register)) ⌝ }
-    requires { ⌜ Taken (now calendar) day close × (day ≡ nextSession (now calendar) (at16 (now register) 2)) ⌝ }
+    requires { ⌜ Taken (now calendar) (moved (momentOf (now register)) day) close × (day ≡ nextSession (now calendar) (momentOf (now register) .day)) ⌝ }
     ensures { λ r. ⌜ r ≡ answer (rules (now (calendar .entry))) (running (bodyOf (now (register .entry)))) (running (sessionOf (now (calendar .entry)) (now (register .entry)) day close)) ⌝ }
     ensures { λ _. ⌜ now (register .exit) ≡ bytesOf (running (sessionOf (now (calendar .entry)) (now (register .entry)) day close)) ⌝ }
 {

@@ -129,7 +129,7 @@ pub extern "C" fn lookup_next_session(calendar: &[u8], day: u32) -> u32
 // The first live month is asked of a calendar that passes its check.
 #[no_mangle]
 pub extern "C" fn lookup_first_live(calendar: &[u8], day: u32) -> u32
-    ensures { λ r. ⌜ r ≡ answer (eqb (calendarCause (now (calendar .entry))) 0 && ltb day dayCount) (firstLive (now (calendar .entry)) day) ⌝ }
+    ensures { λ r. ⌜ r ≡ answer (eqb (calendarCause (now (calendar .entry))) 0 && ltb day dayCount) (firstLive (expiryOf (now (calendar .entry))) day) ⌝ }
 {
     let checked = calendar::check(calendar);
     if checked.number != 0 {

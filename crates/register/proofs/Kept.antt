@@ -11,7 +11,7 @@ use lib.Seq.{take-all, take-at, drop-at, drop-drop, drop-cons, getD-drop}
 use Rattle.layout.specs.Rows.{Row}
 use Rattle.layout.specs.Register.{Body}
 use Rattle.base.specs.Words.{two, at16}
-use Rattle.layout.specs.Bytes.{placesBytes, rowsBytes, padded, bodyBytes, readRows, bodyOf, allZero}
+use Rattle.layout.specs.Bytes.{placesBytes, rowsBytes, padded, bodyBytes, readRows, momentOf, bodyOf, allZero}
 use Rattle.register.specs.Check.{Tells, Keeps}
 use Rattle.layout.specs.Spans.{placesAt}
 use Rattle.layout.proofs.ByteLaws.{places-length, rows-length, padded-length, zeros-zero, places-none, places-some, places-count, rows-count, zeros-are}
@@ -101,7 +101,7 @@ module _ (bs : List ℕ) (bytes : (i : ℕ) → getD bs i 0 < 256) where
         sym (zeros-are (drop (136 + 8 * at16 bs 4) bs) m (omega (arith, length-drop (136 + 8 * at16 bs 4) bs)) (k .behind))
 
     pub layout-is : bodyBytes (bodyOf bs) ≡ bs
-    unfolding bodyBytes bodyOf padded
+    unfolding bodyBytes bodyOf momentOf padded
     layout-is =
         let w : ℕ = getD bs 1 0 in
         let n : ℕ = at16 bs 4 in

@@ -14,12 +14,11 @@ use Rattle.base.proofs.Tests.{byBool}
 use Rattle.base.proofs.CauseLaws.{decides, goes-on, alone, caused, passed}
 use Rattle.dates.specs.Months.{monthCount}
 use Rattle.calendar.specs.Calendar.{calendarLength, tailSet, lacks, calendarCauses, calendarCause, checkOf, Passes}
-use Rattle.calendar.specs.Live.{firstLive, liveMonths}
+use Rattle.calendar.specs.Live.{liveMonths}
 use Rattle.calendar.specs.declared.Checked.{Checked}
-use Rattle.rules.specs.Rulebook.{rules}
+use Rattle.rules.specs.Rulebook.{firstAt, rules}
 use Rattle.layout.specs.Register.{Reg, empty, running}
-use Rattle.layout.specs.Bytes.{registerLength, bodyOf, allZero, regOf}
-use Rattle.base.specs.Words.{at16}
+use Rattle.layout.specs.Bytes.{registerLength, momentOf, bodyOf, allZero, regOf}
 use Rattle.layout.specs.Opening.{opened}
 use Rattle.layout.specs.Spans.{runsWell, spansOf, standingSpans}
 use Rattle.register.specs.Check.{openingCause, openingOf}
@@ -103,7 +102,7 @@ pub record Runs (cal bs : List ℕ) (spans : List (List ℕ)) : Type 0 where
   pub reads : Reads cal bs (running (bodyOf bs))
   pub run : Running cal bs
   pub well : runsWell cal bs ≡ true
-  pub spans-are : spans ≡ spansOf (bodyOf bs) (liveMonths (firstLive cal (at16 bs 2)))
+  pub spans-are : spans ≡ spansOf (bodyOf bs) (liveMonths (firstAt cal (momentOf bs)))
 
 module _ (cal bs : List ℕ) (o : Checked) (is : o ≡ openingOf cal bs) where
   way : Opens cal bs (o .number)

@@ -7,17 +7,19 @@ use Prim.Native.Nat.{ℕ, zero, suc, _+_, _-_, _*_, _≤_, _<_}
 use native.Mathlib.Nat.{le-of-suc-le-suc}
 use native.Mathlib.Numerals.{add-one}
 use native.Mathlib.Omega.{arith}
-use lib.Dec.{eqb, ltb}
+use lib.Dec.{eqb, leb, ltb}
 use lib.ListN.{length, getD, drop}
 use lib.Seq.{drop-cons}
 use borrow.Author.Tests.{eqb-true, eq-eqb, ne-eqb, lt-ltb, le-ltb}
 use Rattle.base.specs.Lists.{elem}
 use Rattle.base.specs.Causes.{cause, firstOf}
 use Rattle.base.proofs.Tests.{byBool, byLe}
-use Rattle.calendar.specs.Calendar.{nextSession}
-use Rattle.calendar.specs.Live.{firstLive, liveMonths}
-use Rattle.rules.specs.Rules.{Rules, lastFirstMonth}
-use Rattle.rules.specs.Rulebook.{rules, firstAt, tierAt}
+use Rattle.calendar.specs.Calendar.{Passes}
+use Rattle.calendar.specs.Live.{liveMonths}
+use Rattle.rules.specs.Rules.{Rules, next, lastFirstMonth}
+use Rattle.rules.specs.Rulebook.{rules, expiryAt, firstAt, tierAt}
+use Rattle.rules.proofs.RulebookLaws.{live-le}
+use Rattle.rules.proofs.NextLaws.{expired-next}
 use Rattle.layout.specs.Register.{Body, waitingOf, announceCauses, waitingOk}
 use Rattle.base.specs.Words.{at16}
 use Rattle.layout.specs.Spans.{spansOf, placesAt, spanIn}
@@ -104,17 +106,20 @@ span-place m (n ∷ ns) (s ∷ ss) h k =
     (λ e. rw e (span-place m ns ss (le-of-suc-le-suc (rw e at h)) (le-of-suc-le-suc (rw e at k))))
 
 -- ---- the causes by numbers are the causes on the register
-module _ (cal : List ℕ) (b : Body) (others : List (ℕ × ℕ)) (m p : ℕ) where
+module _ (cal : List ℕ) (passes : Passes cal) (b : Body) (live : firstAt cal (b .at) ≤ lastFirstMonth) (others : List (ℕ × ℕ)) (m p : ℕ) where
+  expired-is : elem m (liveMonths (firstAt cal (b .at))) ≡ true → leb (expiryAt cal (b .at) m) (b .at .day) ≡ ltb m (firstAt cal (next (rules cal) (b .at)))
+  expired-is e = let l = live-le (firstAt cal (b .at)) m live e in expired-next cal passes (b .at) m (omega arith)
+
   pub causes-are :
-      let f = firstLive cal (b .at .day) in
-      causesAt cal (b .at .day) f (firstLive cal (nextSession cal (b .at .day))) (spanIn (liveMonths f) (spansOf b (liveMonths f)) m) (elem p (waitingOf m others)) m p
+      let f = firstAt cal (b .at) in
+      causesAt f (firstAt cal (next (rules cal) (b .at))) (spanIn (liveMonths f) (spansOf b (liveMonths f)) m) (elem p (waitingOf m others)) m p
       ≡ firstOf (announceCauses (rules cal) b others m p)
-  unfolding causesAt announceCauses rules firstAt tierAt cause firstOf
+  unfolding causesAt announceCauses rules tierAt cause firstOf
   causes-are =
-      let f : ℕ = firstLive cal (b .at .day) in
+      let f : ℕ = firstAt cal (b .at) in
       byBool (elem m (liveMonths f))
-      (λ e. rw (span-in b m (liveMonths f), e))
-      (λ e. byBool (ltb lastFirstMonth (firstLive cal (nextSession cal (b .at .day)))) (λ g. rw g) (λ g. rw (g, e)))
+      (λ e. rw (span-in b m (liveMonths f), e, expired-is e))
+      (λ e. byBool (ltb lastFirstMonth (firstAt cal (next (rules cal) (b .at)))) (λ g. rw g) (λ g. rw (g, e)))
 
 -- ---- one waiting announcement after the other
 module _ (R : Rules) (b : Body) (bs : List ℕ) (at n : ℕ) where

@@ -14,16 +14,18 @@ use borrow.Author.Tests.{le-leb, leb-true}
 use Rattle.base.specs.Lists.{elem, select, within, least, greatest}
 use Rattle.base.proofs.Tests.{byBool, and-l, and-r}
 use Rattle.base.proofs.ListLaws.{elem-here, within-r}
-use Rattle.calendar.specs.Calendar.{session}
+use Rattle.dates.specs.Months.{dayCount}
+use Rattle.calendar.specs.Calendar.{session, expiryOf}
 use Rattle.calendar.specs.Live.{firstLive, liveMonths, tierOf}
 use Rattle.grid.specs.Grid.{gridOf}
 use Rattle.grid.proofs.Prices.{price-line}
 use Rattle.rules.specs.Rules.{lastFirstMonth}
 use Rattle.rules.specs.Rulebook.{rules, firstAt, tierAt}
+use Rattle.rules.proofs.RulebookLaws.{first-is, first-day}
 use Rattle.layout.specs.Rows.{newEntry, Row, row, rowsOf, pricesOf, entryOk}
 use Rattle.layout.specs.Register.{mostWaiting, Body, spanLow, spanHigh, sameKeys, nonEmpty, entriesOk, listed, waitingOk}
 use Rattle.base.specs.Words.{at16}
-use Rattle.layout.specs.Bytes.{readRows, bodyOf, rowsBytes}
+use Rattle.layout.specs.Bytes.{readRows, momentOf, bodyOf, rowsBytes}
 use Rattle.layout.specs.Spans.{noSpans, runsWell, spansOf, standingSpans}
 use Rattle.register.specs.Check.{Keeps}
 use Rattle.scan.specs.Scan.{rowAt, rowsAt, ladderSpans}
@@ -62,27 +64,35 @@ module _ (bs : List ℕ) where
       let z : getD (drop at bs) 7 0 ≡ 0 = omega (arith, origin-is at) in
       (z, rw (drop-drop 8 at bs) (ends-zero day n (at + 8) (and-r (entryOk day (rowAt bs at .entry)) _ k)))
 
+-- its first live month, as the calendar gives it on the day that stands in the bytes
+pub first-read : (cal bs : List ℕ) {first day : ℕ} → day ≡ at16 bs 2 → first ≡ firstLive (expiryOf cal) day → first ≡ firstAt cal (momentOf bs)
+unfolding momentOf
+first-read cal bs d e = e ∙ ap (firstLive (expiryOf cal)) d ∙ first-is cal (momentOf bs)
+
 -- ---- what the scan finds of it
 module _ (cal bs : List ℕ) (l : length bs ≡ 11264) (r : Running cal bs) where
   pub run-keeps : Keeps bs
   run-keeps = kept bs l (r .written) .0
 
   pub run-session : session cal (at16 bs 2) ≡ true
-  unfolding rules bodyOf
+  unfolding rules bodyOf momentOf
   run-session = r .well .session-day
 
-  pub run-first : firstLive cal (at16 bs 2) ≤ lastFirstMonth
-  unfolding rules firstAt bodyOf
-  run-first = leb-true (firstLive cal (at16 bs 2)) lastFirstMonth (r .well .live)
+  pub run-first : firstAt cal (momentOf bs) ≤ lastFirstMonth
+  unfolding rules bodyOf
+  run-first = leb-true (firstAt cal (momentOf bs)) lastFirstMonth (r .well .live)
 
-  pub run-held : Held (firstLive cal (at16 bs 2)) (bodyOf bs .rows)
+  pub run-day : momentOf bs .day < dayCount
+  run-day = let f = run-first in first-day cal (momentOf bs) (omega arith)
+
+  pub run-held : Held (firstAt cal (momentOf bs)) (bodyOf bs .rows)
   unfolding bodyOf
   run-held = held cal (bodyOf bs) (r .well)
 
-  pub run-spans : let f = firstLive cal (at16 bs 2) in ladderSpans (at16 bs 2) f [] (liveMonths f) (rowsAt bs 136 (at16 bs 4)) ≡ spansOf (bodyOf bs) (liveMonths f)
-  unfolding bodyOf
+  pub run-spans : let f = firstAt cal (momentOf bs) in ladderSpans (at16 bs 2) f [] (liveMonths f) (rowsAt bs 136 (at16 bs 4)) ≡ spansOf (bodyOf bs) (liveMonths f)
+  unfolding bodyOf momentOf
   run-spans =
-      let f : ℕ = firstLive cal (at16 bs 2) in
+      let f : ℕ = firstAt cal (momentOf bs) in
       ap (ladderSpans (at16 bs 2) f [] (liveMonths f)) (rows-same bs (at16 bs 4) 136 (kept bs l (r .written) .1))
       ∙ spans-held (at16 bs 2) f (bodyOf bs) run-held (r .well .entries)
 
@@ -101,14 +111,14 @@ first-low f b h z =
 pub record Scanned (cal bs : List ℕ) (spans : List (List ℕ)) : Type 0 where
   pub keeps : Keeps bs
   pub day-session : session cal (at16 bs 2) ≡ true
-  pub first-le : firstLive cal (at16 bs 2) ≤ lastFirstMonth
-  pub spans-is : spans ≡ ladderSpans (at16 bs 2) (firstLive cal (at16 bs 2)) [] (liveMonths (firstLive cal (at16 bs 2))) (rowsAt bs 136 (at16 bs 4))
+  pub first-le : firstAt cal (momentOf bs) ≤ lastFirstMonth
+  pub spans-is : spans ≡ ladderSpans (at16 bs 2) (firstAt cal (momentOf bs)) [] (liveMonths (firstAt cal (momentOf bs))) (rowsAt bs 136 (at16 bs 4))
   pub some : getD (getD spans 0 []) 0 0 ≡ 0 → ⊥
 
 module _ (cal bs : List ℕ) (l : length bs ≡ 11264) (bytes : (i : ℕ) → getD bs i 0 < 256) (spans : List (List ℕ)) (r : Scanned cal bs spans) where
-  scan-found : Found (at16 bs 2) (firstLive cal (at16 bs 2)) (liveMonths (firstLive cal (at16 bs 2))) (rowsAt bs 136 (at16 bs 4))
+  scan-found : Found (at16 bs 2) (firstAt cal (momentOf bs)) (liveMonths (firstAt cal (momentOf bs))) (rowsAt bs 136 (at16 bs 4))
   scan-found =
-      let f : ℕ = firstLive cal (at16 bs 2) in
+      let f : ℕ = firstAt cal (momentOf bs) in
       ⊎-elim (λ z. absurd (r .some (ap (λ (x : List (List ℕ)). getD (getD x 0 []) 0 0) (r .spans-is ∙ z)))) (λ w. w)
       (find-ladders (at16 bs 2) f [] (liveMonths f) (rowsAt bs 136 (at16 bs 4)) (live-apart f))
 
@@ -119,20 +129,20 @@ module _ (cal bs : List ℕ) (l : length bs ≡ 11264) (bytes : (i : ℕ) → ge
   unfolding bodyOf
   rows-are = rows-same bs (at16 bs 4) 136 ends
 
-  found : Found (at16 bs 2) (firstLive cal (at16 bs 2)) (liveMonths (firstLive cal (at16 bs 2))) (bodyOf bs .rows)
+  found : Found (at16 bs 2) (firstAt cal (momentOf bs)) (liveMonths (firstAt cal (momentOf bs))) (bodyOf bs .rows)
   found = rw rows-are at scan-found
 
-  scan-held : Held (firstLive cal (at16 bs 2)) (bodyOf bs .rows)
-  scan-held = held-found (at16 bs 2) (firstLive cal (at16 bs 2)) (bodyOf bs .rows) found
+  scan-held : Held (firstAt cal (momentOf bs)) (bodyOf bs .rows)
+  scan-held = held-found (at16 bs 2) (firstAt cal (momentOf bs)) (bodyOf bs .rows) found
 
-  pub spans-are : spans ≡ spansOf (bodyOf bs) (liveMonths (firstLive cal (at16 bs 2)))
-  spans-are = r .spans-is ∙ rw rows-are (spans-held (at16 bs 2) (firstLive cal (at16 bs 2)) (bodyOf bs) scan-held (found .entries))
+  pub spans-are : spans ≡ spansOf (bodyOf bs) (liveMonths (firstAt cal (momentOf bs)))
+  spans-are = r .spans-is ∙ rw rows-are (spans-held (at16 bs 2) (firstAt cal (momentOf bs)) (bodyOf bs) scan-held (found .entries))
 
   keys-are : let b = bodyOf bs in let R = rules cal in
       sameKeys (b .rows) (rowsOf (R .live (b .at)) (listed R (b .at) (spanLow b) (spanHigh b)) (λ m p. newEntry 0 0)) ≡ true
-  unfolding rules firstAt tierAt listed spanLow spanHigh bodyOf scan-held held-found
+  unfolding rules tierAt listed spanLow spanHigh bodyOf scan-held held-found
   keys-are =
-      let f : ℕ = firstLive cal (at16 bs 2) in
+      let f : ℕ = firstAt cal (momentOf bs) in
       let rs : List Row = bodyOf bs .rows in
       let h = scan-held in
       let same = rowsOf-same (liveMonths f) (λ m. select (within (least (pricesOf m rs)) (greatest (pricesOf m rs))) (gridOf (tierOf f m))) (ladderOf f (h .low) (h .high)) blank blank
@@ -140,20 +150,20 @@ module _ (cal bs : List ℕ) (l : length bs ≡ 11264) (bytes : (i : ℕ) → ge
       rw same (found .keys)
 
   some-row : nonEmpty (bodyOf bs) (rules cal .live (bodyOf bs .at)) ≡ true
-  unfolding rules firstAt spanLow bodyOf
+  unfolding rules spanLow bodyOf
   some-row =
-      let f : ℕ = firstLive cal (at16 bs 2) in
+      let f : ℕ = firstAt cal (momentOf bs) in
       let rs : List Row = bodyOf bs .rows in
       let h = scan-held in
       all-some (bodyOf bs) (liveMonths f) (λ m q. rw (least-held f rs h m q) (there f rs h m (h .low m) q (h .low-on m q) (omega arith) (h .order m q)))
 
   pub stands-if : waitingOk (rules cal) (bodyOf bs) [] (bodyOf bs .waiting) ≡ true → Running cal bs
-  unfolding rules firstAt bodyOf
+  unfolding rules bodyOf momentOf
   stands-if w = record {
     written = sym (layout-is bs bytes l (r .keeps) ends);
     well = record {
       session-day = r .day-session;
-      live = le-leb (firstLive cal (at16 bs 2)) lastFirstMonth (r .first-le);
+      live = le-leb (firstAt cal (momentOf bs)) lastFirstMonth (r .first-le);
       keys = keys-are;
       some-row = some-row;
       entries = found .entries;
@@ -168,13 +178,13 @@ module _ (cal bs : List ℕ) where
   unfolding standingSpans
   none-stand never = byBool (runsWell cal bs) (λ h. absurd (never (runs cal bs h))) (λ h. rw h)
 
-  pub all-stand : Running cal bs → spansOf (bodyOf bs) (liveMonths (firstLive cal (at16 bs 2))) ≡ standingSpans cal bs
+  pub all-stand : Running cal bs → spansOf (bodyOf bs) (liveMonths (firstAt cal (momentOf bs))) ≡ standingSpans cal bs
   unfolding standingSpans
   all-stand r = rw (runs-i cal bs r)
 
   -- so the first month's lowest price tells whether it stands
   pub standing-none : length bs ≡ 11264 → getD (getD (standingSpans cal bs) 0 []) 0 0 ≡ 0 → Running cal bs → ⊥
-  standing-none l z r = first-low (firstLive cal (at16 bs 2)) (bodyOf bs) (run-held cal bs l r) (rw (← all-stand r) at z)
+  standing-none l z r = first-low (firstAt cal (momentOf bs)) (bodyOf bs) (run-held cal bs l r) (rw (← all-stand r) at z)
 
   pub standing-some : (getD (getD (standingSpans cal bs) 0 []) 0 0 ≡ 0 → ⊥) → Running cal bs
   unfolding standingSpans

@@ -4,12 +4,12 @@ use mathlib.Core.Path.{_≡_}
 use mathlib.Core.Bool.{Bool, true, cond, not, _||_}
 use mathlib.Core.List.{List, [], _∷_}
 use Prim.Native.Nat.{ℕ, suc, _+_, _-_, _*_, _≤_}
-use lib.Dec.{leb, eqb, ltb}
+use lib.Dec.{eqb, ltb}
 use lib.ListN.{length, getD, take, drop}
 use Rattle.base.specs.Words.{at16}
 use Rattle.base.specs.Lists.{elem, within}
 use Rattle.base.specs.Causes.{cause, firstOf}
-use Rattle.calendar.specs.Calendar.{calendarCause, firstLacking, expiryOf}
+use Rattle.calendar.specs.Calendar.{calendarCause, firstLacking}
 use Rattle.calendar.specs.Live.{liveMonths, tierOf}
 use Rattle.calendar.specs.declared.Checked.{Checked}
 use Rattle.grid.specs.Grid.{gridOf}
@@ -37,13 +37,13 @@ unfoldable pub placeOf : ℕ → List ℕ → ℕ
 placeOf x [] = 0
 placeOf x (y ∷ ys) = cond (eqb x y) 0 (suc (placeOf x ys))
 
--- causes 20 and 22 to 24 of an announcement, by the numbers that decide them: the day, the first live month of the day and of the next
--- session, the month's span, and whether the price waits for the month already
-unfoldable pub causesAt : List ℕ → ℕ → ℕ → ℕ → List ℕ → Bool → ℕ → ℕ → ℕ
-causesAt calendar day first next span waits m p =
+-- causes 20 and 22 to 24 of an announcement, by the numbers that decide them: the first live month of the day and of the next session, the
+-- month's span, and whether the price waits for the month already. A live month that expires by the day is not live at the next session
+unfoldable pub causesAt : ℕ → ℕ → List ℕ → Bool → ℕ → ℕ → ℕ
+causesAt first next span waits m p =
     firstOf
     (cause (ltb lastFirstMonth next) 20
-    ∷ cause (not (elem m (liveMonths first)) || leb (expiryOf calendar m) day) 22
+    ∷ cause (not (elem m (liveMonths first)) || ltb m next) 22
     ∷ cause (not (elem p (gridOf (tierOf next m)))) 23
     ∷ cause (within (getD span 0 0) (getD span 1 0) p || waits) 24
     ∷ [])

@@ -13,15 +13,14 @@ ghost use mathlib.Core.Path.{_≡_};
 ghost use mathlib.Core.List.{[], _++_};
 ghost use Prim.Native.Nat.{_+_, _-_, _*_, _≤_, _<_};
 ghost use lib.ListN.{length, getD};
-ghost use Rattle.base.specs.Words.{at16};
 ghost use Rattle.base.specs.Lists.{elem};
 ghost use Rattle.dates.specs.Months.{monthCount, dayCount};
-ghost use Rattle.calendar.specs.Calendar.{Passes, nextSession};
-ghost use Rattle.calendar.specs.Live.{firstLive, liveMonths};
-ghost use Rattle.rules.specs.Rules.{lastFirstMonth};
-ghost use Rattle.rules.specs.Rulebook.{rules};
+ghost use Rattle.calendar.specs.Calendar.{Passes};
+ghost use Rattle.calendar.specs.Live.{liveMonths};
+ghost use Rattle.rules.specs.Rules.{next, lastFirstMonth};
+ghost use Rattle.rules.specs.Rulebook.{firstAt, rules};
 ghost use Rattle.layout.specs.Register.{mostWaiting, waitingOf, waitingOk};
-ghost use Rattle.layout.specs.Bytes.{registerLength, bodyOf};
+ghost use Rattle.layout.specs.Bytes.{registerLength, momentOf, bodyOf};
 ghost use Rattle.layout.specs.Spans.{spansOf, standingSpans, placesAt, spanIn};
 ghost use Rattle.register.specs.Check.{Tells, Keeps, placeOf, causesAt, openingOf};
 
@@ -72,11 +71,11 @@ fn live_place(first: u16, month: u32) -> usize
 }
 
 // The first live month of the next session; 1,200 where there is none.
-pub fn next_first(calendar: &[u8], day: u16) -> u16
-    requires { ⌜ (day < dayCount) × Passes (now calendar) ⌝ }
-    ensures { λ r. ⌜ r ≡ firstLive (now (calendar .entry)) (nextSession (now (calendar .entry)) day) ⌝ }
+pub fn next_first(calendar: &[u8], register: &[u8]) -> u16
+    requires { ⌜ Passes (now calendar) × (length (now register) ≡ registerLength) × (momentOf (now register) .day < dayCount) ⌝ }
+    ensures { λ r. ⌜ r ≡ firstAt (now (calendar .entry)) (next (rules (now (calendar .entry))) (momentOf (now (register .entry)))) ⌝ }
 {
-    let next = calendar::next_session(calendar, day);
+    let next = calendar::next_session(calendar, word(register, 2));
     if next < DAYS {
         calendar::first_live(calendar, next)
     } else {
@@ -86,8 +85,6 @@ pub fn next_first(calendar: &[u8], day: u16) -> u16
 
 // Causes 20 and 22 to 24 of an announcement, tried downwards; 0 where none holds. `next` is the first live month of the next session.
 pub fn refusal(
-    calendar: &[u8],
-    day: u16,
     first: u16,
     next: u16,
     spans: [[u16; 2]; 6],
@@ -95,8 +92,8 @@ pub fn refusal(
     month: u32,
     price: u32,
 ) -> u16
-    requires { ⌜ (first ≡ firstLive (now calendar) day) × (first ≤ lastFirstMonth) × (next ≤ monthCount) ⌝ }
-    ensures { λ r. ⌜ r ≡ causesAt (now (calendar .entry)) day first next (spanIn (liveMonths first) spans month) waits month price ⌝ }
+    requires { ⌜ (first ≤ lastFirstMonth) × (next ≤ monthCount) ⌝ }
+    ensures { λ r. ⌜ r ≡ causesAt first next (spanIn (liveMonths first) spans month) waits month price ⌝ }
 {
     if LAST_FIRST_MONTH < next {
         return 20;
@@ -106,7 +103,7 @@ pub fn refusal(
         return 22;
     }
     let live = month as u16;
-    if calendar::expiry(calendar, live) <= day {
+    if live < next {
         return 22;
     }
     if !grid::on_grid(calendar::tier_of(next, live), price) {
@@ -156,18 +153,12 @@ fn waits_beside(register: &[u8], places: usize, i: usize, month: u32, price: u32
 }
 
 // Whether no waiting announcement would be refused beside the others, where the six spans are those of the register's rows.
-fn waiting_stands(
-    calendar: &[u8],
-    register: &[u8],
-    day: u16,
-    first: u16,
-    spans: [[u16; 2]; 6],
-) -> bool
-    requires { ⌜ Passes (now calendar) × (length (now register) ≡ registerLength) × (getD (now register) 1 0 ≤ mostWaiting) × (day < dayCount) × (day ≡ at16 (now register) 2)
-        × (first ≡ firstLive (now calendar) day) × (first ≤ lastFirstMonth) × (spans ≡ spansOf (bodyOf (now register)) (liveMonths first)) ⌝ }
+fn waiting_stands(calendar: &[u8], register: &[u8], first: u16, spans: [[u16; 2]; 6]) -> bool
+    requires { ⌜ Passes (now calendar) × (length (now register) ≡ registerLength) × (getD (now register) 1 0 ≤ mostWaiting) × (momentOf (now register) .day < dayCount)
+        × (first ≡ firstAt (now calendar) (momentOf (now register))) × (first ≤ lastFirstMonth) × (spans ≡ spansOf (bodyOf (now register)) (liveMonths first)) ⌝ }
     ensures { λ r. ⌜ r ≡ waitingOk (rules (now (calendar .entry))) (bodyOf (now (register .entry))) [] (bodyOf (now (register .entry)) .waiting) ⌝ }
 {
-    let next = next_first(calendar, day);
+    let next = next_first(calendar, register);
     let places = register[1] as usize;
     let mut i: usize = 0;
     while i < places {
@@ -175,7 +166,7 @@ fn waiting_stands(
         let month = word(register, at) as u32;
         let price = word(register, at + 2) as u32;
         let beside = waits_beside(register, places, i, month, price);
-        if refusal(calendar, day, first, next, spans, beside, month, price) != 0 {
+        if refusal(first, next, spans, beside, month, price) != 0 {
             return false;
         }
         i += 1;
@@ -212,7 +203,7 @@ pub fn standing(calendar: &[u8], register: &[u8]) -> [[u16; 2]; 6]
     if register[1] == 0 {
         return spans;
     }
-    if !waiting_stands(calendar, register, day, first, spans) {
+    if !waiting_stands(calendar, register, first, spans) {
         return none;
     }
     spans

@@ -17,7 +17,7 @@ use Rattle.base.proofs.Tests.{byBool, or-e, or-fl, or-fr}
 use Rattle.base.proofs.CauseLaws.{not-cause, alone}
 use Rattle.base.proofs.ListLaws.{elem-here, elem-there}
 use Rattle.base.proofs.Rising.{rises, rises-head, rises-tail, rises-all, risesAll}
-use Rattle.calendar.specs.Live.{firstLive, liveMonths, tierOf}
+use Rattle.calendar.specs.Live.{liveMonths, tierOf}
 use Rattle.grid.specs.Numbers.{numberOf, stride}
 use Rattle.grid.proofs.Prices.{number-price}
 use Rattle.grid.proofs.Grids.{prices-length}
@@ -25,8 +25,8 @@ use Rattle.rules.specs.Rulebook.{rules, firstAt}
 use Rattle.rules.proofs.RulebookLaws.{live-rises}
 use Rattle.layout.specs.Rows.{Entry, Row, row, ladder, rowsOf}
 use Rattle.layout.specs.Register.{Body, running, spanLow, spanHigh}
-use Rattle.layout.specs.Bytes.{registerLength, rowsBytes, bodyOf, allZero, regOf}
-use Rattle.base.specs.Words.{two, at16}
+use Rattle.layout.specs.Bytes.{registerLength, rowsBytes, momentOf, bodyOf, allZero, regOf}
+use Rattle.base.specs.Words.{two}
 use Rattle.calls.specs.RowsCall.{monthRows, earlierRows, rowsCause, rowsNumber, rowsPart, rowsPlace}
 use Rattle.layout.specs.Spans.{spansOf}
 use Rattle.rows.specs.Places.{ladderSize, noRows, monthPlace}
@@ -189,15 +189,15 @@ module _ (cal bs : List ℕ) (m : ℕ) where
   unfolding rowsPlace rowsNumber
   rows-refused {n} x = rw (x .says, ne-eqb n 0 (x .some))
 
-  own-is : rowsCause (rules cal) m (running (bodyOf bs)) ≡ cause (not (elem m (liveMonths (firstLive cal (at16 bs 2))))) 26
-  unfolding rowsCause rules firstAt bodyOf
-  own-is = alone (cause (not (elem m (liveMonths (firstLive cal (at16 bs 2))))) 26)
+  own-is : rowsCause (rules cal) m (running (bodyOf bs)) ≡ cause (not (elem m (liveMonths (firstAt cal (momentOf bs))))) 26
+  unfolding rowsCause rules bodyOf
+  own-is = alone (cause (not (elem m (liveMonths (firstAt cal (momentOf bs))))) 26)
 
   pub rows-placed : Reads cal bs (running (bodyOf bs)) → Running cal bs →
-      let f = firstLive cal (at16 bs 2) in monthPlace f m 136 (liveMonths f) (spansOf (bodyOf bs) (liveMonths f)) ≡ rowsPlace (rules cal) bs m
+      let f = firstAt cal (momentOf bs) in monthPlace f m 136 (liveMonths f) (spansOf (bodyOf bs) (liveMonths f)) ≡ rowsPlace (rules cal) bs m
   unfolding rowsPlace rowsNumber cause
   rows-placed x r =
-      let f : ℕ = firstLive cal (at16 bs 2) in
+      let f : ℕ = firstAt cal (momentOf bs) in
       let b : Body = bodyOf bs in
       let h = run-held cal bs (x .size) r in
       let own = rowsCause (rules cal) m in
@@ -210,7 +210,7 @@ module _ (cal bs : List ℕ) (m : ℕ) where
   -- ---- what lies at that place
 
   -- where the number is 0 the register runs and the month is live
-  accepted : rowsNumber (rules cal) bs m ≡ 0 → (length bs ≡ registerLength) × Running cal bs × (elem m (liveMonths (firstLive cal (at16 bs 2))) ≡ true)
+  accepted : rowsNumber (rules cal) bs m ≡ 0 → (length bs ≡ registerLength) × Running cal bs × (elem m (liveMonths (firstAt cal (momentOf bs))) ≡ true)
   unfolding rowsNumber rowsCause regOf
   accepted h =
       let k = none-opened (rules cal) bs (rowsCause (rules cal) m (regOf bs)) h in
@@ -218,7 +218,7 @@ module _ (cal bs : List ℕ) (m : ℕ) where
       (λ t. let z : _≡_ {A = ℕ} 17 0 = rw t at (k .3) in absurd (omega arith))
       (λ t.
       let z : rowsCause (rules cal) m (running (bodyOf bs)) ≡ 0 = rw t at (k .3) in
-      (k .1, runs cal bs (sym (stands-else cal bs t) ∙ k .2), not-false _ (not-cause (not (elem m (liveMonths (firstLive cal (at16 bs 2))))) 25 (sym own-is ∙ z))))
+      (k .1, runs cal bs (sym (stands-else cal bs t) ∙ k .2), not-false _ (not-cause (not (elem m (liveMonths (firstAt cal (momentOf bs))))) 25 (sym own-is ∙ z))))
 
   -- behind the rows of the months before stand the month's rows, and they end inside the register
   record There : Type 0 where
@@ -229,7 +229,7 @@ module _ (cal bs : List ℕ) (m : ℕ) where
   there : rowsNumber (rules cal) bs m ≡ 0 → There
   there z =
       let k = accepted z in
-      let f : ℕ = firstLive cal (at16 bs 2) in
+      let f : ℕ = firstAt cal (momentOf bs) in
       let h = run-held cal bs (k .0) (k .1) in
       let rs : List Row = bodyOf bs .rows in
       let zeros : List ℕ = replicate (11128 - length (rowsBytes rs)) 0 in

@@ -3,7 +3,7 @@
 use mathlib.Core.Path.{_≡_, refl}
 use mathlib.Core.Bool.{Bool, true, false, cond, false≢true}
 use mathlib.Core.List.{List}
-use Prim.Native.Nat.{ℕ, _+_, _*_, _/_, _≤_}
+use Prim.Native.Nat.{ℕ, _+_, _*_, _/_, _≤_, _<_}
 use native.Mathlib.Omega.{arith}
 use native.Mathlib.Nat.{le-of-lt}
 use lib.Dec.{leb, eqb}
@@ -14,22 +14,41 @@ use Rattle.base.specs.declared.Tier.the-variants.{N, M, F}
 use Rattle.base.proofs.Tests.{byLe, or-e}
 use Rattle.base.proofs.SearchLaws.{first-found}
 use Rattle.base.proofs.Rising.{rises, risesAll}
-use Rattle.dates.specs.Months.{dayCount}
-use Rattle.calendar.specs.Calendar.{session, nextSession}
+use Rattle.dates.specs.Months.{monthCount, dayCount}
+use Rattle.calendar.specs.Calendar.{session, expiryOf, nextSession}
 use Rattle.calendar.specs.Live.{firstLive, nextQuarter, liveMonths, tierOf}
-use Rattle.calendar.proofs.Laws.{next-later}
-use Rattle.calendar.proofs.LiveLaws.{live-mono, live-day, quarter-is, tier-n, tier-m, tier-f}
+use Rattle.calendar.proofs.Laws.{expiry-below, next-later}
+use Rattle.calendar.proofs.LiveLaws.{live-mono, live-day, live-top, quarter-is, tier-n, tier-m, tier-f}
 use Rattle.grid.specs.Grid.{upBy, band, gridOf}
 use Rattle.grid.proofs.GridLaws.{grid-sizes, F-in-M, M-in-N, price-le, required-low, required-high}
-use Rattle.rules.specs.Rules.{next, lastFirstMonth}
-use Rattle.rules.specs.Rulebook.{firstAt, tierAt, rules}
+use Rattle.rules.specs.Rules.{Moment, next, lastFirstMonth}
+use Rattle.rules.specs.Rulebook.{begun, moved, expiryAt, firstAt, tierAt, rules}
 use Rattle.rules.proofs.Laws.{Laws, total}
 
-next-session-of : (cal : List ℕ) (d : ℕ) → leb (firstLive cal (nextSession cal d)) lastFirstMonth ≡ true → session cal (nextSession cal d) ≡ true
-unfolding nextSession
-next-session-of cal d h =
-    let l = leb-true (firstLive cal (nextSession cal d)) lastFirstMonth h in
-    first-found (session cal) (d + 1) dayCount (live-day cal (nextSession cal d) (omega arith))
+-- ---- the first live month of a moment
+module _ (cal : List ℕ) where
+  -- as the calendar alone gives it
+  pub first-is : (x : Moment) → firstLive (expiryOf cal) (x .day) ≡ firstAt cal x
+  unfolding firstAt expiryAt
+  first-is x = refl
+
+  pub first-top : (x : Moment) → firstAt cal x ≤ monthCount
+  unfolding firstAt
+  first-top x = live-top (expiryAt cal x) (x .day)
+
+  -- a moment with a live month lies in the calendar
+  pub first-day : (x : Moment) → firstAt cal x < monthCount → x .day < dayCount
+  unfolding firstAt expiryAt
+  first-day x = live-day (expiryAt cal x) (expiry-below cal) (x .day)
+
+  -- at the next session it is no earlier
+  pub first-later : (x : Moment) → firstAt cal x ≤ firstAt cal (next (rules cal) x)
+  unfolding rules moved firstAt expiryAt
+  first-later x = live-mono (expiryAt cal x) (x .day) (nextSession cal (x .day)) (le-of-lt (next-later cal (x .day)))
+
+  next-found : (x : Moment) → firstAt cal (next (rules cal) x) ≤ lastFirstMonth → session cal (nextSession cal (x .day)) ≡ true
+  unfolding rules moved nextSession
+  next-found x h = first-found (session cal) (x .day + 1) dayCount (first-day (next (rules cal) x) (omega arith))
 
 -- a later first live month makes a month's grid finer, if anything
 tier-finer : (f g m p : ℕ) → f ≤ g → elem p (gridOf (tierOf f m)) ≡ true → elem p (gridOf (tierOf g m)) ≡ true
@@ -50,7 +69,7 @@ tier-finer f g m p le e =
     to-M true h = h
     to-M false h = F-in-M p h
 
-live-le : (f m : ℕ) → f ≤ lastFirstMonth → elem m (liveMonths f) ≡ true → m ≤ 1199
+pub live-le : (f m : ℕ) → f ≤ lastFirstMonth → elem m (liveMonths f) ≡ true → m ≤ 1199
 unfolding elem liveMonths
 live-le f m h e =
     let q : ℕ = nextQuarter f in
@@ -100,23 +119,22 @@ live-rises f =
     )
 
 pub laws : (cal : List ℕ) → Laws (rules cal)
-unfolding rules firstAt tierAt
+unfolding rules tierAt begun moved
 laws cal = record {
   good-begin = λ d. refl;
   good-move = λ x g. refl;
   begin-day = λ d. refl;
   move-day = λ x d. refl;
   later = λ x. next-later cal (x .day);
-  next-session = λ x g. next-session-of cal (x .day);
+  next-session = λ x g h. next-found cal x (leb-true _ _ h);
   day-in = λ x g h.
-      let l = leb-true (firstLive cal (x .day)) lastFirstMonth h in
-      let k = live-day cal (x .day) (omega arith) in
+      let l = leb-true (firstAt cal x) lastFirstMonth h in
+      let k = first-day cal x (omega arith) in
       omega arith;
   live-in = λ x m h e. live-le (firstAt cal x) m (leb-true _ _ h) e;
   price-in = λ x m p e. let l = price-le (tierAt cal x m) p e in omega arith;
   capacity = λ x. capacity-of (firstAt cal x);
-  finer = λ x m p g l k. tier-finer (firstAt cal x) (firstAt cal (next (rules cal) x)) m p
-      (live-mono cal (x .day) (nextSession cal (x .day)) (le-of-lt (next-later cal (x .day))));
+  finer = λ x m p g l k. tier-finer (firstAt cal x) (firstAt cal (next (rules cal) x)) m p (first-later cal x);
   low-on = λ x new m c ok. required-low (tierAt cal x m) c .0;
   high-on = λ x new m c ok. required-high (tierAt cal x m) c .0;
   low-high = λ x new m c ok.

@@ -9,9 +9,19 @@ use Rattle.calendar.specs.Live.{firstLive, liveMonths, tierOf}
 use Rattle.grid.specs.Grid.{gridOf, requiredLow, requiredHigh}
 use Rattle.rules.specs.Rules.{Moment, Rules}
 
+-- moments are built here alone: that of a start on a day, and that of a session on a day after a moment
+unfoldable pub begun : ℕ → Moment
+begun d = record { day = d }
+
+unfoldable pub moved : Moment → ℕ → Moment
+moved x d = record { day = d }
+
 module _ (calendar : List ℕ) where
+  unfoldable pub expiryAt : Moment → ℕ → ℕ
+  expiryAt x m = expiryOf calendar m
+
   unfoldable pub firstAt : Moment → ℕ
-  firstAt x = firstLive calendar (x .day)
+  firstAt x = firstLive (expiryAt x) (x .day)
 
   unfoldable pub tierAt : Moment → ℕ → Tier
   tierAt x m = tierOf (firstAt x) m
@@ -21,10 +31,10 @@ rules calendar = record {
   calendarCause = calendarCause calendar;
   isSession = session calendar;
   nextDay = λ x. nextSession calendar (x .day);
-  begin = λ d. record { day = d };
-  move = λ x d. record { day = d };
+  begin = begun;
+  move = moved;
   good = λ x. true;
-  expiry = λ x m. expiryOf calendar m;
+  expiry = expiryAt calendar;
   firstLive = firstAt calendar;
   live = λ x. liveMonths (firstAt calendar x);
   grid = λ x m. gridOf (tierAt calendar x m);

@@ -12,14 +12,14 @@ use Rattle.base.specs.Search.{firstFrom}
 use Rattle.base.specs.declared.Tier.{Tier}
 use Rattle.base.specs.declared.Tier.the-variants.{N, M, F}
 use Rattle.dates.specs.Months.{friday, monthDays, firstDay, thirdFriday}
-use Rattle.calendar.specs.Calendar.{session, nextSession}
+use Rattle.calendar.specs.Calendar.{session, nextSession, expiryOf}
 use Rattle.calendar.specs.Live.{firstLive, quarterly, nextQuarter, liveMonths, tierOf}
 use Rattle.grid.specs.Grid.{closeTaken}
 use Rattle.rules.specs.Rulebook.{rules}
 use Rattle.calls.specs.Calls.{start}
 use Rattle.layout.specs.Register.{Body}
 use Rattle.base.specs.Words.{at16}
-use Rattle.layout.specs.Bytes.{bodyOf}
+use Rattle.layout.specs.Bytes.{bodyOf, momentOf}
 use Rattle.calls.specs.Listing.{startBody}
 use Rattle.calls.specs.Answers.{afterAt}
 use Rattle.history.specs.Claim.{emptyRegister}
@@ -36,21 +36,21 @@ missing-friday : (session (replicate 1154 0 ++ (64 ∷ [])) 9239 ≡ false) × (
 unfolding session
 missing-friday = (refl, refl)
 
-can-start : (day : ℕ) → day ≤ 36524 → firstLive everyDay day ≤ 1190 → CanStart everyDay day
+can-start : (day : ℕ) → day ≤ 36524 → firstLive (expiryOf everyDay) day ≤ 1190 → CanStart everyDay day
 can-start day l f = record { passes = every-day-passes; in-calendar = l; on-session = every-day-session day l; first-month = f }
 
-live-of : (day f m : ℕ) (t : Tier) → firstLive everyDay day ≡ f → elem m (liveMonths f) ≡ true → tierOf f m ≡ t → LiveAs everyDay day m t
+live-of : (day f m : ℕ) (t : Tier) → firstLive (expiryOf everyDay) day ≡ f → elem m (liveMonths f) ≡ true → tierOf f m ≡ t → LiveAs everyDay day m t
 unfolding LiveAs
 live-of day f m t e a b = rw e (a, b)
 
 -- ---- 16 and 17 November: the first live month is November
-first-16 : firstLive everyDay 9816 ≡ 322
+first-16 : firstLive (expiryOf everyDay) 9816 ≡ 322
 first-16 = november-first 9816 (lit≤ tt) (lit≤ tt)
 
 next-16 : nextSession everyDay 9816 ≡ 9817
 next-16 = every-day-next 9816 (lit< tt)
 
-first-17 : firstLive everyDay 9817 ≡ 322
+first-17 : firstLive (expiryOf everyDay) 9817 ≡ 322
 first-17 = november-first 9817 (lit≤ tt) (lit≤ tt)
 
 start-16 : CanStart everyDay 9816
@@ -77,10 +77,10 @@ abbrev started : List ℕ
 started = afterAt (rules everyDay) (start 9816 241337) emptyRegister
 
 can-move : CanMove everyDay started 9817
-unfolding closeTaken within bodyOf startBody
+unfolding closeTaken within bodyOf momentOf startBody
 can-move =
     let w = start-written everyDay 9816 241337 start-16 refl in
-    let b : Body = startBody (rules everyDay) (record { day = 9816 }) 241337 in
+    let b : Body = startBody (rules everyDay) (rules everyDay .begin 9816) 241337 in
     let r = written-runs everyDay started b w in
     let day : at16 started 2 ≡ 9816 = ap (λ (b : Body). b .at .day) (written-body everyDay started b w) in
     record {
@@ -97,13 +97,13 @@ december : (firstDay 323 ≡ 9831) × (thirdFriday 323 ≡ 9848) × (firstDay 32
 unfolding thirdFriday firstDay monthDays friday firstFrom
 december = (refl, refl, refl)
 
-first-18 : firstLive everyDay 9848 ≡ 323
+first-18 : firstLive (expiryOf everyDay) 9848 ≡ 323
 first-18 = every-day-first 9848 323 (lit< tt) (omega (arith, december .0)) (omega (arith, december .1))
 
 next-18 : nextSession everyDay 9848 ≡ 9849
 next-18 = every-day-next 9848 (lit< tt)
 
-first-19 : firstLive everyDay 9849 ≡ 324
+first-19 : firstLive (expiryOf everyDay) 9849 ≡ 324
 first-19 = every-day-later 9849 323 (lit< tt) (omega (arith, december .0)) (omega (arith, december .1)) (omega (arith, december .2)) (lit< tt)
 
 start-18 : CanStart everyDay 9848
@@ -142,5 +142,5 @@ met =
     both = ((everyDay, 9816, start-16), (everyDay, started, 9817, can-move))
 
     stays : (cal : List ℕ) × (day : ℕ) × (m : ℕ) × CanStart cal day
-        × (firstLive cal (nextSession cal day) ≤ 1190) × LiveAs cal day m M × LiveAs cal (nextSession cal day) m M
+        × (firstLive (expiryOf cal) (nextSession cal day) ≤ 1190) × LiveAs cal day m M × LiveAs cal (nextSession cal day) m M
     stays = (everyDay, 9816, 323, start-16, rw next-16 (omega (arith, first-17)), middle-16, rw next-16 middle-17)

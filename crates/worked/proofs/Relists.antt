@@ -19,7 +19,8 @@ use Rattle.calendar.proofs.Laws.{expiry-ascends, next-later}
 use Rattle.calendar.proofs.LiveLaws.{live-unexpired}
 use Rattle.grid.specs.Grid.{gridOf, requiredLow, requiredHigh, closeTaken}
 use Rattle.rules.specs.Rules.{Rules, Moment}
-use Rattle.rules.specs.Rulebook.{firstAt, tierAt, rules}
+use Rattle.rules.specs.Rulebook as Rulebook
+use Rattle.rules.specs.Rulebook.{firstAt, tierAt, rules, expiryAt}
 use Rattle.calls.specs.Calls.{Call, start, session, announce}
 use Rattle.rules.proofs.RulebookLaws.{laws}
 use Rattle.layout.specs.Rows.{newEntry, Row, find, pricesOf}
@@ -65,15 +66,15 @@ module _ (t u : Tier) (c : ℕ) where
 
 -- the register after a start, where some prices wait
 abbrev body : List ℕ → ℕ → ℕ → List (ℕ × ℕ) → Body
-body cal day c waiting = record { at = record { day = day }; waiting = waiting; rows = begun cal day c }
+body cal day c waiting = record { at = rules cal .begin day; waiting = waiting; rows = begun cal day c }
 
 module _ (cal : List ℕ) (day c m : ℕ) (t : Tier) (live : LiveAs cal day m t) where
   abbrev R : Rules
   R = rules cal
 
   start-find : (p : ℕ) → find m p (begun cal day c) ≡ cond (elem p (startPrices c t)) (some (newEntry day 5)) none
-  unfolding LiveAs startBody rules firstAt tierAt listed
-  start-find p = find-rowsOf m p (liveMonths (firstLive cal day)) _ (λ m p. newEntry day 5) ∙ rw (live .0, live .1)
+  unfolding LiveAs startBody rules Rulebook.begun Rulebook.moved firstAt expiryAt tierAt listed
+  start-find p = find-rowsOf m p (liveMonths (firstLive (expiryOf cal) day)) _ (λ m p. newEntry day 5) ∙ rw (live .0, live .1)
 
   -- a session on another day, where some prices wait for the month
   module _ (waiting : List (ℕ × ℕ)) (ps : List ℕ) (wait : waitingOf m waiting ≡ ps) (later d : ℕ) (u : Tier) (still : LiveAs cal later m u) where
@@ -81,22 +82,22 @@ module _ (cal : List ℕ) (day c m : ℕ) (t : Tier) (live : LiveAs cal day m t)
     b = body cal day c waiting
 
     abbrev y : Moment
-    y = record { day = later }
+    y = R .move (b .at) later
 
     close-low : closeLow R b y d m ≡ low t u c d
-    unfolding LiveAs closeLow spanLow rules firstAt tierAt low
+    unfolding LiveAs closeLow spanLow rules Rulebook.begun Rulebook.moved firstAt expiryAt tierAt low
     close-low = rw (start-prices cal day c m t live, still .1)
 
     close-high : closeHigh R b y d m ≡ high t u c d
-    unfolding LiveAs closeHigh spanHigh rules firstAt tierAt high
+    unfolding LiveAs closeHigh spanHigh rules Rulebook.begun Rulebook.moved firstAt expiryAt tierAt high
     close-high = rw (start-prices cal day c m t live, still .1)
 
     new-prices : listed R y (newLow R b y d) (newHigh R b y d) m ≡ prices t u c d ps
-    unfolding LiveAs listed newLow newHigh rules firstAt tierAt prices
+    unfolding LiveAs listed newLow newHigh rules Rulebook.begun Rulebook.moved firstAt expiryAt tierAt prices
     new-prices = rw (live .0, close-low, close-high, wait, still .1)
 
     new-origin : (p : ℕ) → kept (find m p (begun cal day c)) (newEntry later (newOrigin R b y d m p)) .origin ≡ origin t u c d p
-    unfolding LiveAs newOrigin spanLow spanHigh rules firstAt kept origin
+    unfolding LiveAs newOrigin spanLow spanHigh rules Rulebook.begun Rulebook.moved firstAt expiryAt kept origin
     new-origin p =
         byBool (elem p (startPrices c t))
         (λ e. rw (start-find p, e))
@@ -106,30 +107,30 @@ module _ (cal : List ℕ) (day c m : ℕ) (t : Tier) (live : LiveAs cal day m t)
     relisted = sessionBody R b y d .rows
 
     pub session-prices : pricesOf m relisted ≡ prices t u c d ps
-    unfolding LiveAs sessionBody rules firstAt
-    session-prices = month-prices m _ _ (liveMonths (firstLive cal later)) (live-apart (firstLive cal later)) (still .0) ∙ new-prices
+    unfolding LiveAs sessionBody rules Rulebook.begun Rulebook.moved firstAt expiryAt
+    session-prices = month-prices m _ _ (liveMonths (firstLive (expiryOf cal) later)) (live-apart (firstLive (expiryOf cal) later)) (still .0) ∙ new-prices
 
     pub session-origin : (o : ℕ) → pricesOf m (ofOrigin o relisted) ≡ select (λ p. eqb (origin t u c d p) o) (prices t u c d ps)
-    unfolding LiveAs sessionBody rules firstAt
+    unfolding LiveAs sessionBody rules Rulebook.begun Rulebook.moved firstAt expiryAt
     session-origin o =
-        ap (pricesOf m) (origin-rows o (liveMonths (firstLive cal later)) _ _)
-        ∙ month-prices m _ _ (liveMonths (firstLive cal later)) (live-apart (firstLive cal later)) (still .0)
+        ap (pricesOf m) (origin-rows o (liveMonths (firstLive (expiryOf cal) later)) _ _)
+        ∙ month-prices m _ _ (liveMonths (firstLive (expiryOf cal) later)) (live-apart (firstLive (expiryOf cal) later)) (still .0)
         ∙ simp (new-prices, new-origin)
 
 -- ---- the announcements, where the calendar passes and the next session can be
 module _ (cal : List ℕ) (passes : Passes cal) (day c m : ℕ) (t u : Tier) (live : LiveAs cal day m t)
-    (first : firstLive cal (nextSession cal day) ≤ 1190) (still : LiveAs cal (nextSession cal day) m u) where
+    (first : firstLive (expiryOf cal) (nextSession cal day) ≤ 1190) (still : LiveAs cal (nextSession cal day) m u) where
   abbrev later : ℕ
   later = nextSession cal day
 
   -- a month that is live at the next session has not expired
   unexpired : day < expiryOf cal m
-  unfolding LiveAs rules firstAt
+  unfolding LiveAs rules Rulebook.begun Rulebook.moved firstAt expiryAt
   unexpired =
-      let g : ℕ = firstLive cal later in
+      let g : ℕ = firstLive (expiryOf cal) later in
       let a = live-e g m (still .0) .0 in
-      let b = laws cal .live-in (record { day = later }) m (le-leb g 1190 first) (still .0) in
-      let x = live-unexpired cal later (omega arith) in
+      let b = laws cal .live-in (rules cal .begin later) m (le-leb g 1190 first) (still .0) in
+      let x = live-unexpired (expiryOf cal) later (omega arith) in
       let n = next-later cal day in
       byLe m g
       (λ l. let e : m ≡ g = omega arith in rw e (omega arith))
@@ -137,7 +138,7 @@ module _ (cal : List ℕ) (passes : Passes cal) (day c m : ℕ) (t u : Tier) (li
 
   announce-number : (p : ℕ) (past : List ℕ) (ws : List (ℕ × ℕ)) → waitingOf m ws ≡ past → length ws ≡ length past → (ps : List ℕ)
       → announceable t u c past (p ∷ ps) ≡ true → number (rules cal) (announce m p) (running (body cal day c ws)) ≡ 0
-  unfolding LiveAs announceable number announceCauses spanLow spanHigh rules firstAt tierAt cause firstOf
+  unfolding LiveAs announceable number announceCauses spanLow spanHigh rules Rulebook.begun Rulebook.moved firstAt expiryAt tierAt cause firstOf
   announce-number p past ws wait size ps h =
       let on : elem p (gridOf u) ≡ true = and-l (elem p (gridOf u)) _ h in
       let h₁ = and-r (elem p (gridOf u)) _ h in
@@ -146,7 +147,7 @@ module _ (cal : List ℕ) (passes : Passes cal) (day c m : ℕ) (t u : Tier) (li
       let h₂ = and-r (not (within (least (startPrices c t)) (greatest (startPrices c t)) p || elem p past)) _ h₁ in
       let room = ltb-true (length past) mostWaiting (and-l (ltb (length past) mostWaiting) _ h₂) in
       rw (
-        le-ltb 1190 (firstLive cal later) first,
+        le-ltb 1190 (firstLive (expiryOf cal) later) first,
         live .0,
         lt-leb (expiryOf cal m) day unexpired,
         still .1,
@@ -188,21 +189,21 @@ module _ (cal : List ℕ) (day c d : ℕ) (ws : List (ℕ × ℕ)) (bs : List �
   abbrev moves : Call
   moves = session (nextSession cal day) d
 
-  session-taken : Passes cal → firstLive cal (nextSession cal day) ≤ 1190 → closeTaken d ≡ true → numberAt (rules cal) moves bs ≡ 0
-  unfolding number rules firstAt cause firstOf
+  session-taken : Passes cal → firstLive (expiryOf cal) (nextSession cal day) ≤ 1190 → closeTaken d ≡ true → numberAt (rules cal) moves bs ≡ 0
+  unfolding number rules Rulebook.begun Rulebook.moved firstAt expiryAt cause firstOf
   session-taken passes first ok =
       written-number cal bs (running (body cal day c ws)) w passes moves
-      ∙ rw (eqb-self (nextSession cal day), le-ltb 1190 (firstLive cal (nextSession cal day)) first, ok)
+      ∙ rw (eqb-self (nextSession cal day), le-ltb 1190 (firstLive (expiryOf cal) (nextSession cal day)) first, ok)
 
   rows-before : rowsRead bs ≡ begun cal day c
   rows-before = ap (λ (b : Body). b .rows) (written-body cal bs (body cal day c ws) w)
 
   rows-after : numberAt (rules cal) moves bs ≡ 0
-      → rowsRead (afterAt (rules cal) moves bs) ≡ sessionBody (rules cal) (body cal day c ws) (record { day = nextSession cal day }) d .rows
-  unfolding accepted rules
+      → rowsRead (afterAt (rules cal) moves bs) ≡ sessionBody (rules cal) (body cal day c ws) (rules cal .move (rules cal .begin day) (nextSession cal day)) d .rows
+  unfolding accepted rules Rulebook.begun Rulebook.moved
   rows-after n =
       ap (λ (b : Body). b .rows)
-      (written-body cal (afterAt (rules cal) moves bs) (sessionBody (rules cal) (body cal day c ws) (record { day = nextSession cal day }) d)
+      (written-body cal (afterAt (rules cal) moves bs) (sessionBody (rules cal) (body cal day c ws) (rules cal .move (rules cal .begin day) (nextSession cal day)) d)
       (written-after cal bs (running (body cal day c ws)) w moves n))
 
 -- so a line that holds of the tiers holds

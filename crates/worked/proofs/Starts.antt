@@ -16,11 +16,12 @@ use Rattle.base.proofs.ListLaws.{select-all}
 use Rattle.calendar.specs.Live.{firstLive, nextQuarter, liveMonths, tierOf}
 use Rattle.calendar.proofs.LiveLaws.{quarter-is, tier-n, tier-m, tier-f, live-tiers}
 use Rattle.grid.specs.Grid.{gridOf, requiredLow, requiredHigh, closeTaken}
-use Rattle.rules.specs.Rulebook.{firstAt, tierAt, rules}
+use Rattle.rules.specs.Rulebook as Rulebook
+use Rattle.rules.specs.Rulebook.{firstAt, tierAt, rules, expiryAt}
 use Rattle.calls.specs.Calls.{start}
 use Rattle.layout.specs.Rows.{Entry, newEntry, Row, ladder, rowsOf, pricesOf}
 use Rattle.layout.specs.Register.{Body, empty, running, listed}
-use Rattle.layout.specs.Bytes.{rowsFrom, bodyOf}
+use Rattle.layout.specs.Bytes.{rowsFrom, bodyOf, momentOf}
 use Rattle.base.specs.Words.{at16}
 use Rattle.layout.proofs.RowLaws.{rowsOf-same, ladder-length}
 use Rattle.layout.proofs.Held.{live-apart}
@@ -34,6 +35,7 @@ use Rattle.history.proofs.Written.{Written, empty-written, written-read, writte
 use Rattle.worked.specs.Worked.{rowsRead, ofOrigin, together, Reach, Reaches, LiveAs, CanStart, starts, lists, Holds}
 use Rattle.worked.proofs.Returns.{start-returns}
 use Rattle.worked.proofs.Months.{month-prices, origin-rows}
+use Rattle.calendar.specs.Calendar.{expiryOf}
 
 -- a tier's prices that a start at a close lists
 abbrev pub startPrices : ℕ → Tier → List ℕ
@@ -68,12 +70,12 @@ module _ (d o : ℕ) where
 
 -- the rows of a start
 abbrev pub begun : List ℕ → ℕ → ℕ → List Row
-begun cal day c = startBody (rules cal) (record { day = day }) c .rows
+begun cal day c = startBody (rules cal) (rules cal .begin day) c .rows
 
 pub start-prices : (cal : List ℕ) (day c m : ℕ) (t : Tier) → LiveAs cal day m t → pricesOf m (begun cal day c) ≡ startPrices c t
-unfolding LiveAs startBody rules firstAt tierAt listed
+unfolding LiveAs startBody rules Rulebook.begun Rulebook.moved firstAt expiryAt tierAt listed
 start-prices cal day c m t live =
-    let f : ℕ = firstLive cal day in
+    let f : ℕ = firstLive (expiryOf cal) day in
     month-prices m _ (λ m p. newEntry day 5) (liveMonths f) (live-apart f) (live .0) ∙ rw (live .1)
 
 -- the six live months' tiers, whatever the calendar and the day
@@ -82,21 +84,21 @@ six = N ∷ M ∷ M ∷ F ∷ F ∷ F ∷ []
 
 module _ (cal : List ℕ) (day c : ℕ) where
   start-size : length (begun cal day c) ≡ sizes (startPrices c) six
-  unfolding startBody rules firstAt tierAt listed
+  unfolding startBody rules Rulebook.begun Rulebook.moved firstAt expiryAt tierAt listed
   start-size =
-      let f : ℕ = firstLive cal day in
+      let f : ℕ = firstLive (expiryOf cal) day in
       rows-length (startPrices c) (tierOf f) (λ m p. newEntry day 5) (liveMonths f) ∙ rw (live-tiers f)
 
-  start-new : added (running (startBody (rules cal) (record { day = day }) c)) ≡ sizes (startPrices c) six
-  unfolding added startBody rules
+  start-new : added (running (startBody (rules cal) (rules cal .begin day) c)) ≡ sizes (startPrices c) six
+  unfolding added startBody rules Rulebook.begun Rulebook.moved
   start-new = rows-new day 5 _ _ ∙ start-size
 
   -- each row has origin 5
   start-origin : ofOrigin 5 (begun cal day c) ≡ begun cal day c
   unfolding startBody
   start-origin =
-      origin-rows 5 (rules cal .live (record { day = day })) _ (λ m p. newEntry day 5)
-      ∙ rowsOf-same (rules cal .live (record { day = day })) _ _ (λ m p. newEntry day 5) (λ m p. newEntry day 5)
+      origin-rows 5 (rules cal .live (rules cal .begin day)) _ (λ m p. newEntry day 5)
+      ∙ rowsOf-same (rules cal .live (rules cal .begin day)) _ _ (λ m p. newEntry day 5) (λ m p. newEntry day 5)
       (λ m l. select-all (λ p. eqb 5 5) _ (λ p e. refl)) (λ m p l e. refl)
 
   -- ---- at the bytes, wherever a start can be
@@ -108,22 +110,22 @@ module _ (cal : List ℕ) (day c : ℕ) where
     abbrev bs : List ℕ
     bs = afterAt (rules cal) (start day c) emptyRegister
 
-    pub start-written : Written cal bs (running (startBody (rules cal) (record { day = day }) c))
-    unfolding accepted rules
+    pub start-written : Written cal bs (running (startBody (rules cal) (rules cal .begin day) c))
+    unfolding accepted rules Rulebook.begun Rulebook.moved
     start-written = written-after cal emptyRegister empty (empty-written cal) (start day c) start-taken
 
     pub start-read : rowsRead bs ≡ begun cal day c
-    start-read = ap (λ (b : Body). b .rows) (written-body cal bs (startBody (rules cal) (record { day = day }) c) start-written)
+    start-read = ap (λ (b : Body). b .rows) (written-body cal bs (startBody (rules cal) (rules cal .begin day) c) start-written)
 
     start-answer : listedAt cal (start day c) emptyRegister
         ≡ record { number = 0; added = sizes (startPrices c) six; removed = 0; rows = sizes (startPrices c) six }
-    unfolding listedAt accepted rowsHeld removed count rules
+    unfolding listedAt accepted rowsHeld removed count rules Rulebook.begun Rulebook.moved
     start-answer =
         rw (start-taken, written-read cal emptyRegister empty (empty-written cal))
         (λ i. record { number = 0; added = start-new i; removed = 0; rows = start-size i })
 
     start-count : at16 bs 4 ≡ sizes (startPrices c) six
-    unfolding bodyOf
+    unfolding bodyOf momentOf
     start-count = sym (rows-count (at16 bs 4) (drop rowsFrom bs)) ∙ ap length start-read ∙ start-size
 
     start-five : length (ofOrigin 5 (rowsRead bs)) ≡ sizes (startPrices c) six
@@ -132,7 +134,7 @@ module _ (cal : List ℕ) (day c : ℕ) where
 -- the first live month is of tier N, the next two of tier M, the last three of tier F
 module _ (cal : List ℕ) (day : ℕ) where
   abbrev f : ℕ
-  f = firstLive cal day
+  f = firstLive (expiryOf cal) day
 
   abbrev q : ℕ
   q = nextQuarter f

@@ -4,7 +4,7 @@ use mathlib.Core.Path.{_≡_}
 use mathlib.Core.Bool.{true, false}
 use mathlib.Core.List.{List, [], _∷_}
 use Prim.Native.Nat.{ℕ, _≤_}
-use Rattle.calendar.specs.Calendar.{session as hasSession, nextSession}
+use Rattle.calendar.specs.Calendar.{session as hasSession, nextSession, expiryOf}
 use Rattle.calendar.specs.Live.{firstLive}
 use Rattle.worked.specs.Worked.{LiveAs, CanStart, CanMove, Line, friday, expires, near, span, starts, lists, returns, relists, name}
 
@@ -18,7 +18,7 @@ Met (lists t c ladder) = (cal : List ℕ) × (day : ℕ) × (m : ℕ) × CanStar
 Met (returns c n) = ((cal : List ℕ) × (day : ℕ) × CanStart cal day) × ((cal : List ℕ) × (bs : List ℕ) × (day : ℕ) × CanMove cal bs day)
 Met (relists t u c ps d old new o some) =
     (cal : List ℕ) × (day : ℕ) × (m : ℕ) × CanStart cal day
-    × (firstLive cal (nextSession cal day) ≤ 1190) × LiveAs cal day m t × LiveAs cal (nextSession cal day) m u
+    × (firstLive (expiryOf cal) (nextSession cal day) ≤ 1190) × LiveAs cal day m t × LiveAs cal (nextSession cal day) m u
 Met (name m k p bytes) = Unit {0}
 
 -- each line of a list is met

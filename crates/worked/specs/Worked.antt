@@ -47,7 +47,7 @@ Reaches ps s = (length ps ≡ s .0) × (least ps ≡ s .1) × (greatest ps ≡ s
 
 -- under a calendar a month is live on a day, of a tier
 unfoldable pub LiveAs : List ℕ → ℕ → ℕ → Tier → Type 0
-LiveAs cal day m t = (elem m (liveMonths (firstLive cal day)) ≡ true) × (tierOf (firstLive cal day) m ≡ t)
+LiveAs cal day m t = (elem m (liveMonths (firstLive (expiryOf cal) day)) ≡ true) × (tierOf (firstLive (expiryOf cal) day) m ≡ t)
 
 -- of all causes only the close could stand against a start on a day: the calendar passes, the day has a session and its first live month
 -- is at most 1,190
@@ -55,7 +55,7 @@ pub record CanStart (cal : List ℕ) (day : ℕ) : Type 0 where
   pub passes : Passes cal
   pub in-calendar : day ≤ 36524
   pub on-session : hasSession cal day ≡ true
-  pub first-month : firstLive cal day ≤ 1190
+  pub first-month : firstLive (expiryOf cal) day ≤ 1190
 
 -- and against a session on a day: the bytes are a running register, in the layout and well formed, and the day is the next session day
 -- after the one that it holds
@@ -65,7 +65,7 @@ pub record CanMove (cal bs : List ℕ) (day : ℕ) : Type 0 where
   pub not-empty : allZero bs ≡ false
   pub well-formed : stands (rules cal) bs ≡ true
   pub next-session : day ≡ nextSession cal (at16 bs 2)
-  pub first-month : firstLive cal day ≤ 1190
+  pub first-month : firstLive (expiryOf cal) day ≤ 1190
 
 -- what a line of the table states
 pub data Line : Type 0 where
@@ -97,7 +97,7 @@ Holds (span t c lo hi) = (requiredLow t c ≡ lo) × (requiredHigh t c ≡ hi)
 -- wherever a start can be: what it answers; in the bytes after it the rows of the first live month, of the next two and of the last
 -- three, their number, and that each has origin 5
 Holds (starts c n m f a) = (cal : List ℕ) (day : ℕ) → CanStart cal day →
-    let live : List ℕ = liveMonths (firstLive cal day) in
+    let live : List ℕ = liveMonths (firstLive (expiryOf cal) day) in
     let bs : List ℕ = afterAt (rules cal) (start day c) emptyRegister in
     (listedAt cal (start day c) emptyRegister ≡ record { number = 0; added = a; removed = 0; rows = a })
     × (together (take 1 live) (rowsRead bs) ≡ n)
@@ -118,7 +118,7 @@ Holds (returns c n) =
 -- after the session have the month's ladders
 Holds (relists t u c ps d old new o some) = (cal : List ℕ) (day m : ℕ) → CanStart cal day →
     let later : ℕ = nextSession cal day in
-    firstLive cal later ≤ 1190 → LiveAs cal day m t → LiveAs cal later m u →
+    firstLive (expiryOf cal) later ≤ 1190 → LiveAs cal day m t → LiveAs cal later m u →
     let R : Rules = rules cal in
     let calls : List Call = start day c ∷ map (announce m) ps in
     let before : List ℕ = finalAt R calls emptyRegister in

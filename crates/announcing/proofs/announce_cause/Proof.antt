@@ -1,29 +1,59 @@
 -- `announcing::announce_cause` meets its contract: what the leaves find decides the causes in the table's order.
 -- Assumes nothing.
-use mathlib.Core.Path.{ap}
+use mathlib.Core.Path.{_≡_, _∙_}
+use mathlib.Core.List.{List}
+use Prim.Native.Nat.{ℕ, _≤_}
 use native.Mathlib.Omega.{arith}
 use borrow.Author.Needs.{needs}
-use Rattle.calendar.specs.Calendar.{nextSession}
-use Rattle.calendar.specs.Live.{firstLive}
-use Rattle.layout.proofs.Running.{runs}
-use Rattle.register.proofs.Well.{run-first}
-use Rattle.calendar.proofs.LiveLaws.{live-top}
-use Rattle.announcing.proofs.Says.{day-in, few-wait, gathered, own-refusal, own-full, own-none}
+use Rattle.base.specs.Causes.{firstOf}
+use Rattle.rules.specs.Rules.{next, lastFirstMonth}
+use Rattle.rules.specs.Rulebook.{firstAt, rules}
+use Rattle.rules.proofs.RulebookLaws.{first-top}
+use Rattle.layout.specs.Register.{announceCauses}
+use Rattle.layout.specs.Bytes.{momentOf, bodyOf}
+use Rattle.layout.proofs.Running.{Running, runs}
+use Rattle.register.proofs.Well.{first-read, run-first, run-day}
+use Rattle.announcing.proofs.Says.{few-wait, gathered, own-refusal, own-full, own-none}
 use Rattle.announcing.proofs.announce_cause.Statement.{statement}
 use Rattle.announcing.proofs.announce_cause.Tie as tie
+
+abbrev cal : tie.Start → List ℕ
+cal s = s .args .calendar .now
+
+abbrev bs : tie.Start → List ℕ
+bs s = s .args .register .now
+
+run : (s : tie.Start) → Running (cal s) (bs s)
+run s = runs (cal s) (bs s) (s .pre .1 .0)
+
+live : (s : tie.Start) → firstAt (cal s) (momentOf (bs s)) ≤ lastFirstMonth
+live s = run-first (cal s) (bs s) (s .pre .0 .1) (run s)
+
+first-is : (c : tie.After-first-live) → let s = c .before .before .before .before in c .first-live .result ≡ firstAt (cal s) (momentOf (bs s))
+first-is c = first-read _ _ (c .before .word .ensures) (c .first-live .ensures)
+
+found : (c : tie.After-refusal) →
+    let s = c .before .before .before .before .before .before .before .before in
+    c .refusal .result ≡ firstOf (announceCauses (rules (cal s)) (bodyOf (bs s)) (bodyOf (bs s) .waiting) (s .args .month) (s .args .price))
+found c =
+    let f = c .before .before .before .before in
+    let s = f .before .before .before .before in
+    gathered (cal s) (bs s) (s .args .month) (s .args .price) (s .pre .0 .0) (live s) _ _ _ _ _ (first-is f) (c .before .before .before .next-first .ensures) (c .before .waits .ensures)
+    (s .pre .1 .1) (c .refusal .ensures)
 
 word-requires : tie.Need-word-requires
 word-requires c κs = search needs
 
 first-live-requires : tie.Need-first-live-requires
+unfolding momentOf
 first-live-requires c κs =
     let s = c .before .before .before in
-    (omega (arith, day-in _ _ (s .pre .0 .1) (runs _ _ (s .pre .1 .0)), c .word .ensures), s .pre .0 .0)
+    (rw (c .word .ensures) (run-day (cal s) (bs s) (s .pre .0 .1) (run s)), s .pre .0 .0)
 
 next-first-requires : tie.Need-next-first-requires
 next-first-requires c κs =
     let s = c .before .before .before .before in
-    (omega (arith, day-in _ _ (s .pre .0 .1) (runs _ _ (s .pre .1 .0)), c .before .word .ensures), s .pre .0 .0)
+    (s .pre .0 .0, s .pre .0 .1, run-day (cal s) (bs s) (s .pre .0 .1) (run s))
 
 shared-slice-read-places : tie.Need-shared-slice-read-places
 shared-slice-read-places c = search needs
@@ -34,40 +64,22 @@ cast-places c = omega (arith, c .shared-slice-known3 .given 1)
 waits-requires : tie.Need-waits-requires
 waits-requires c κs =
     let s = c .before .before .before .before .before .before in
-    omega (arith, few-wait _ _ (s .pre .0 .1) (runs _ _ (s .pre .1 .0)))
+    omega (arith, few-wait (cal s) (bs s) (s .pre .0 .1) (run s))
 
 refusal-requires : tie.Need-refusal-requires
 refusal-requires c κs =
-    let s = c .before .before .before .before .before .before .before in
-    let first = run-first (s .args .calendar .now) (s .args .register .now) (s .pre .0 .1) (runs _ _ (s .pre .1 .0)) in (
-      c .before .before .before .first-live .ensures,
-      omega (arith, ap (firstLive (s .args .calendar .now)) (c .before .before .before .before .word .ensures), c .before .before .before .first-live .ensures),
-      omega (arith, c .before .before .next-first .ensures, live-top (s .args .calendar .now) (nextSession (s .args .calendar .now) (c .before .before .before .before .word .result))),
-    )
+    let f = c .before .before .before in
+    let s = f .before .before .before .before in
+    (omega (arith, first-is f, live s), omega (arith, c .before .before .next-first .ensures, first-top (cal s) (next (rules (cal s)) (momentOf (bs s)))))
 
 returns : tie.Need-returns
-returns c =
-    let r = c .before in
-    let s = r .before .before .before .before .before .before .before .before in
-    let g = gathered (s .args .calendar .now) (s .args .register .now) (s .args .month) (s .args .price) _ _ _ _ _ _ (r .before .before .before .before .before .word .ensures)
-    (r .before .before .before .before .first-live .ensures) (r .before .before .before .next-first .ensures) (r .before .waits .ensures) (s .pre .1 .1) (r .refusal .ensures) in
-    own-refusal _ _ _ _ _ g (c .if1 .taken)
+returns c = own-refusal _ _ _ _ _ (found (c .before)) (c .if1 .taken)
 
 returns-2 : tie.Need-returns-2
-returns-2 c =
-    let r = c .before .before in
-    let s = r .before .before .before .before .before .before .before .before in
-    let g = gathered (s .args .calendar .now) (s .args .register .now) (s .args .month) (s .args .price) _ _ _ _ _ _ (r .before .before .before .before .before .word .ensures)
-    (r .before .before .before .before .first-live .ensures) (r .before .before .before .next-first .ensures) (r .before .waits .ensures) (s .pre .1 .1) (r .refusal .ensures) in
-    own-full _ _ _ _ _ g (c .before .if1 .left) (c .if2 .taken)
+returns-2 c = own-full _ _ _ _ _ (found (c .before .before)) (c .before .if1 .left) (c .if2 .taken)
 
 returns-3 : tie.Need-returns-3
-returns-3 c =
-    let r = c .before .before in
-    let s = r .before .before .before .before .before .before .before .before in
-    let g = gathered (s .args .calendar .now) (s .args .register .now) (s .args .month) (s .args .price) _ _ _ _ _ _ (r .before .before .before .before .before .word .ensures)
-    (r .before .before .before .before .first-live .ensures) (r .before .before .before .next-first .ensures) (r .before .waits .ensures) (s .pre .1 .1) (r .refusal .ensures) in
-    own-none _ _ _ _ _ g (c .before .if1 .left) (c .if2 .left)
+returns-3 c = own-none _ _ _ _ _ (found (c .before .before)) (c .before .if1 .left) (c .if2 .left)
 
 pub announce-cause-spec : {M : Type 1} → statement M
 announce-cause-spec =

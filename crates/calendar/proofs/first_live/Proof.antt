@@ -5,7 +5,7 @@ use native.Mathlib.Omega.{arith}
 use borrow.Author.Needs.{needs}
 use Rattle.dates.proofs.Laws.{month-of-below}
 use Rattle.calendar.specs.Calendar.{expiryOf}
-use Rattle.calendar.proofs.LiveLaws.{live-now, live-next}
+use Rattle.calendar.proofs.LiveLaws.{calendar-dated, live-now, live-next}
 use Rattle.calendar.proofs.first_live.Statement.{statement}
 use Rattle.calendar.proofs.first_live.Tie as tie
 
@@ -22,14 +22,14 @@ returns : tie.Need-returns
 returns c =
     let own = c .before .before .month-of .ensures in
     let s = c .before .before .before .before in
-    own ∙ sym (live-now _ _ (s .pre .0) (omega (arith, c .before .expiry .ensures, ap (expiryOf (s .args .calendar .now)) own)))
+    own ∙ sym (live-now _ (calendar-dated _ (s .pre .1)) _ (s .pre .0) (omega (arith, c .before .expiry .ensures, ap (expiryOf (s .args .calendar .now)) own)))
 
 returns-2 : tie.Need-returns-2
 returns-2 c =
     let own = c .before .before .month-of .ensures in
     let s = c .before .before .before .before in
     let cal = s .args .calendar .now in
-    omega (arith, own, live-next cal (s .args .day) (s .pre .0) (s .pre .1) (omega (arith, c .before .expiry .ensures, ap (expiryOf cal) own)))
+    omega (arith, own, live-next (expiryOf cal) (calendar-dated cal (s .pre .1)) (s .args .day) (s .pre .0) (omega (arith, c .before .expiry .ensures, ap (expiryOf cal) own)))
 
 pub first-live-spec : {M : Type 1} → statement M
 first-live-spec =

@@ -7,14 +7,16 @@ use native.Mathlib.Omega.{arith}
 use lib.ListN.{length, getD}
 use borrow.Author.Needs.{needs}
 use Rattle.dates.specs.Months.{monthCount}
-use Rattle.calendar.specs.Live.{firstLive, liveMonths}
-use Rattle.layout.specs.Bytes.{registerLength, bodyOf}
+use Rattle.calendar.specs.Live.{liveMonths}
+use Rattle.rules.specs.Rulebook.{moved, firstAt}
+use Rattle.rules.proofs.RulebookLaws as Rulebook
+use Rattle.layout.specs.Bytes.{registerLength, momentOf, bodyOf}
 use Rattle.base.specs.Words.{at16}
 use Rattle.layout.specs.Spans.{spansOf}
 use Rattle.layout.proofs.Running.{Running, runs}
-use Rattle.register.proofs.Well.{all-stand, run-keeps, run-first}
+use Rattle.register.proofs.Well.{first-read, all-stand, run-keeps, run-first, run-day}
 use Rattle.listing.proofs.Starts.{close-low, close-high, day-in}
-use Rattle.listing.proofs.Before.{old, day-was}
+use Rattle.listing.proofs.Before.{old}
 use Rattle.listing.proofs.Sessions.{TakenUp, up-ready, up-order, up-within, up-relisted, up-count, up-head}
 use Rattle.listing.proofs.list_session.Statement.{statement}
 use Rattle.listing.proofs.list_session.Tie as tie
@@ -32,7 +34,7 @@ run : (s : tie.Start) → Running (cal s) (bs s)
 run s = runs (cal s) (bs s) (s .pre .0 .1)
 
 abbrev first₀ : tie.Start → ℕ
-first₀ s = firstLive (cal s) (at16 (bs s) 2)
+first₀ s = firstAt (cal s) (momentOf (bs s))
 
 spans-are : (s : tie.Start) → s .args .t5 ≡ spansOf (old (cal s) (bs s) (size s) (run s)) (liveMonths (first₀ s))
 unfolding bodyOf
@@ -47,15 +49,19 @@ start₂ c = start₁ (c .before .before .before)
 abbrev start₃ : tie.After-new-spans → tie.Start
 start₃ c = start₂ (c .before .before .before .before .before)
 
-before-is : (c : tie.After-first-live) → c .first-live .result ≡ firstLive (cal (start₁ c)) (at16 (bs (start₁ c)) 2)
-before-is c = rw (c .before .word2 .ensures) at (c .first-live .ensures)
+before-is : (c : tie.After-first-live) → c .first-live .result ≡ first₀ (start₁ c)
+before-is c = first-read (cal (start₁ c)) (bs (start₁ c)) (c .before .word2 .ensures) (c .first-live .ensures)
+
+first-is : (c : tie.After-first-live2) → let s = start₁ (c .before) in c .first-live2 .result ≡ firstAt (cal s) (moved (momentOf (bs s)) (s .args .day))
+unfolding moved
+first-is c = let s = start₁ (c .before) in c .first-live2 .ensures ∙ Rulebook.first-is (cal s) (moved (momentOf (bs s)) (s .args .day))
 
 first-in : (c : tie.After-live-months) → getD (c .live-months .result) 0 0 ≤ monthCount
 unfolding liveMonths
 first-in c =
     let s = start₁ (c .before .before) in
     let l = s .pre .1 .0 .live in
-    rw (c .live-months .ensures, c .before .first-live2 .ensures) (omega arith)
+    rw (c .live-months .ensures, first-is (c .before)) (omega arith)
 
 abbrev Up : tie.After-new-spans → Type 0
 Up c =
@@ -73,7 +79,7 @@ taken-up c =
     record {
       spans-are = spans-are (start₃ c);
       before-is = before-is (o .before .before .before);
-      first-is = o .before .before .first-live2 .ensures;
+      first-is = first-is (o .before .before);
       months-are = o .before .live-months .ensures;
       olds-are = o .live-months2 .ensures;
       held-are = w .before .held-spans .ensures;
@@ -92,17 +98,19 @@ word-requires-2 : tie.Need-word-requires-2
 word-requires-2 c κs = search needs
 
 first-live-requires : tie.Need-first-live-requires
+unfolding momentOf
 first-live-requires c κs =
     let s = c .before .before .before .before .before .before in
-    (rw (c .word2 .ensures) (day-was (cal s) (bs s) (size s) (run s)), s .pre .1 .0 .passes)
+    (rw (c .word2 .ensures) (run-day (cal s) (bs s) (size s) (run s)), s .pre .1 .0 .passes)
 
 first-live-requires-2 : tie.Need-first-live-requires-2
+unfolding moved
 first-live-requires-2 c κs =
     let s = start₁ c in
-    (day-in (cal s) (s .args .day) (s .args .close) (s .pre .1 .0), s .pre .1 .0 .passes)
+    (day-in (cal s) (moved (momentOf (bs s)) (s .args .day)) (s .args .close) (s .pre .1 .0), s .pre .1 .0 .passes)
 
 live-months-requires : tie.Need-live-months-requires
-live-months-requires c κs = let s = start₁ (c .before) in omega (arith, c .first-live2 .ensures, s .pre .1 .0 .live)
+live-months-requires c κs = let s = start₁ (c .before) in omega (arith, first-is c, s .pre .1 .0 .live)
 
 live-months-requires-2 : tie.Need-live-months-requires-2
 live-months-requires-2 c κs =
@@ -116,7 +124,7 @@ held-spans-requires c κs = search needs
 close-spans-requires : tie.Need-close-spans-requires
 close-spans-requires c κs =
     let s = start₂ (c .before) in
-    (first-in (c .before .before), close-low (cal s) (s .args .day) (s .args .close) (s .pre .1 .0), close-high (cal s) (s .args .day) (s .args .close) (s .pre .1 .0))
+    (first-in (c .before .before), close-low (cal s) (moved (momentOf (bs s)) (s .args .day)) (s .args .close) (s .pre .1 .0), close-high (cal s) (moved (momentOf (bs s)) (s .args .day)) (s .args .close) (s .pre .1 .0))
 
 slice-read-waiting : tie.Need-slice-read-waiting
 slice-read-waiting c = search needs

@@ -1,9 +1,11 @@
 -- `listing::list_start` meets its contract.
 -- Assumes nothing.
-use mathlib.Core.Path.{_≡_}
+use mathlib.Core.Path.{_≡_, _∙_}
 use native.Mathlib.Omega.{arith}
 use borrow.Author.Needs.{needs}
-use Rattle.calendar.specs.Live.{firstLive, liveMonths}
+use Rattle.calendar.specs.Live.{liveMonths}
+use Rattle.rules.specs.Rulebook.{begun, firstAt}
+use Rattle.rules.proofs.RulebookLaws as Rulebook
 use Rattle.layout.specs.Bytes.{readRows}
 use Rattle.ladders.specs.Writing.{rowsIn}
 use Rattle.ladders.specs.Spans.{closeSpans}
@@ -12,22 +14,29 @@ use Rattle.listing.proofs.list_start.Statement.{statement}
 use Rattle.listing.proofs.list_start.Tie as tie
 
 first-live-requires : tie.Need-first-live-requires
+unfolding begun
 first-live-requires c κs =
     let s = c .before .before in
-    (day-in (s .args .calendar .now) (s .args .day) (s .args .close) (s .pre .1), s .pre .1 .passes)
+    (day-in (s .args .calendar .now) (begun (s .args .day)) (s .args .close) (s .pre .1), s .pre .1 .passes)
+
+-- the month, the months and the spans that the code has taken up
+first-is : (c : tie.After-first-live) → c .first-live .result ≡ firstAt (c .before .before .before .args .calendar .now) (begun (c .before .before .before .args .day))
+unfolding begun
+first-is c =
+    let a = c .before .before .before .args in
+    c .first-live .ensures ∙ Rulebook.first-is (a .calendar .now) (begun (a .day))
 
 live-months-requires : tie.Need-live-months-requires
 live-months-requires c κs =
     let s = c .before .before .before in
-    omega (arith, c .first-live .ensures, s .pre .1 .live)
+    omega (arith, first-is c, s .pre .1 .live)
 
--- the months and spans that the code has taken up
-months-are : (c : tie.After-live-months) → c .live-months .result ≡ liveMonths (firstLive (c .before .before .before .before .args .calendar .now) (c .before .before .before .before .args .day))
-months-are c = rw (c .before .first-live .ensures) at (c .live-months .ensures)
+months-are : (c : tie.After-live-months) → c .live-months .result ≡ liveMonths (firstAt (c .before .before .before .before .args .calendar .now) (begun (c .before .before .before .before .args .day)))
+months-are c = rw (first-is (c .before)) at (c .live-months .ensures)
 
 spans-are : (c : tie.After-close-spans)
     → let a = c .before .before .before .before .before .args in
-    c .close-spans .result ≡ closeSpans (liveMonths (firstLive (a .calendar .now) (a .day))) none (a .close)
+    c .close-spans .result ≡ closeSpans (liveMonths (firstAt (a .calendar .now) (begun (a .day)))) none (a .close)
 spans-are c = rw (months-are (c .before)) at (c .close-spans .ensures)
 
 close-spans-requires : tie.Need-close-spans-requires
@@ -36,7 +45,7 @@ close-spans-requires c κs =
     let s = c .before .before .before .before in
     let l = s .pre .1 .live in
     rw (months-are c)
-    (omega arith, close-low (s .args .calendar .now) (s .args .day) (s .args .close) (s .pre .1), close-high (s .args .calendar .now) (s .args .day) (s .args .close) (s .pre .1))
+    (omega arith, close-low (s .args .calendar .now) (begun (s .args .day)) (s .args .close) (s .pre .1), close-high (s .args .calendar .now) (begun (s .args .day)) (s .args .close) (s .pre .1))
 
 sub-list : tie.Need-sub-list
 sub-list c = search needs

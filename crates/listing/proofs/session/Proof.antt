@@ -5,20 +5,19 @@ use mathlib.Core.List.{List}
 use Prim.Native.Nat.{ℕ}
 use native.Mathlib.Omega.{arith}
 use borrow.Author.Needs.{needs}
-use Rattle.base.specs.Words.{at16}
 use Rattle.calendar.specs.Calendar.{nextSession}
-use Rattle.rules.specs.Rulebook.{rules}
+use Rattle.rules.specs.Rulebook.{moved, rules}
 use Rattle.layout.specs.Register.{Body, running}
-use Rattle.layout.specs.Bytes.{bodyOf}
+use Rattle.layout.specs.Bytes.{momentOf, bodyOf}
 use Rattle.calls.specs.Calls as Call
 use Rattle.calls.specs.Calls.{Call}
 use Rattle.calls.specs.Listing.{number, accepted}
 use Rattle.calls.proofs.AnswerLaws.{refused-listed, own-refused, accepted-listed}
+use Rattle.register.proofs.Well.{run-day}
 use Rattle.register.proofs.Opens.{Runs, opening-refused, opening-goes, standing-refused, standing-runs}
 use Rattle.listing.specs.Writing.{Taken}
 use Rattle.listing.proofs.Opens.{session-taken}
 use Rattle.listing.proofs.Starts.{day-in}
-use Rattle.listing.proofs.Before.{day-was}
 use Rattle.listing.proofs.session.Statement.{statement}
 use Rattle.listing.proofs.session.Tie as tie
 
@@ -48,7 +47,7 @@ runs c =
 abbrev body : tie.Else2 → Body
 body c = bodyOf (bs (start c))
 
-taken : (c : tie.Else3) → let s = start (c .before .before .before) in Taken (cal s) (s .args .day) (s .args .close) × (s .args .day ≡ nextSession (cal s) (at16 (bs s) 2))
+taken : (c : tie.Else3) → let s = start (c .before .before .before) in Taken (cal s) (moved (momentOf (bs s)) (s .args .day)) (s .args .close) × (s .args .day ≡ nextSession (cal s) (momentOf (bs s) .day))
 unfolding bodyOf
 taken c =
     let e = c .before .before .before in
@@ -102,7 +101,7 @@ session-cause-requires : tie.Need-session-cause-requires
 session-cause-requires c κs =
     let e = c .before in
     let r = runs e in
-    (r .reads .passes, r .reads .size, day-was (cal (start e)) (bs (start e)) (r .reads .size) (r .run))
+    (r .reads .passes, r .reads .size, run-day (cal (start e)) (bs (start e)) (r .reads .size) (r .run))
 
 refused-requires-3 : tie.Need-refused-requires-3
 refused-requires-3 c κs = search needs
@@ -119,9 +118,10 @@ returns-3 c =
     (c .refused3 .ensures ∙ x .0, x .1)
 
 cast-list-session : tie.Need-cast-list-session
+unfolding moved
 cast-list-session c =
     let s = start (c .before .before .before .before) in
-    omega (arith, day-in (cal s) (s .args .day) (s .args .close) (taken (c .before) .0))
+    omega (arith, day-in (cal s) (moved (momentOf (bs s)) (s .args .day)) (s .args .close) (taken (c .before) .0))
 
 list-session-requires : tie.Need-list-session-requires
 list-session-requires c κs =
@@ -132,7 +132,7 @@ same-length-4 : tie.Need-same-length-4
 same-length-4 c = search needs
 
 returns-4 : tie.Need-returns-4
-unfolding accepted rules
+unfolding accepted rules bodyOf
 returns-4 c =
     let r = c .before .before in
     let n = r .before .before in

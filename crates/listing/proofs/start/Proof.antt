@@ -5,7 +5,7 @@ use mathlib.Core.List.{List}
 use Prim.Native.Nat.{ℕ}
 use native.Mathlib.Omega.{arith}
 use borrow.Author.Needs.{needs}
-use Rattle.rules.specs.Rulebook.{rules}
+use Rattle.rules.specs.Rulebook.{begun, rules}
 use Rattle.layout.specs.Register.{empty, running}
 use Rattle.layout.specs.Bytes.{bodyOf}
 use Rattle.layout.proofs.OpeningLaws.{Reads}
@@ -37,7 +37,7 @@ empties c =
     let o = c .before .before in
     opening-empty (cal (entry o)) (bs (entry o)) (o .opening .result) (o .opening .ensures) (c .if1 .taken)
 
-taken : (c : tie.Else2) → let s = entry (c .before .before .before .before) in Taken (cal s) (s .args .day) (s .args .close)
+taken : (c : tie.Else2) → let s = entry (c .before .before .before .before) in Taken (cal s) (begun (s .args .day)) (s .args .close)
 taken c =
     let t = c .before .before in
     let s = entry (t .before .before) in
@@ -64,9 +64,10 @@ returns c =
     (c .refused .ensures ∙ x .0, x .1)
 
 cast-list-start : tie.Need-cast-list-start
+unfolding begun
 cast-list-start c =
     let s = entry (c .before .before .before .before .before) in
-    omega (arith, day-in (cal s) (s .args .day) (s .args .close) (taken (c .before)))
+    omega (arith, day-in (cal s) (begun (s .args .day)) (s .args .close) (taken (c .before)))
 
 list-start-requires : tie.Need-list-start-requires
 list-start-requires c κs = (empties (c .before .before .before) .size, taken (c .before))

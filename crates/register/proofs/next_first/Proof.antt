@@ -1,22 +1,41 @@
--- `register::next_first` meets its contract.
+-- `register::next_first` meets its contract: the next session's moment has its day, and past the calendar's last day no month is live.
 -- Assumes nothing.
-use mathlib.Core.Path.{sym}
+use mathlib.Core.Path.{_≡_, sym, _∙_}
 use borrow.Author.Needs.{needs}
+use Rattle.calendar.specs.Calendar.{expiryOf}
+use Rattle.calendar.specs.Live.{firstLive}
+use Rattle.calendar.proofs.Laws.{expiry-below}
 use Rattle.calendar.proofs.LiveLaws.{live-past}
+use Rattle.rules.specs.Rules.{next}
+use Rattle.rules.specs.Rulebook.{moved, firstAt, rules}
+use Rattle.rules.proofs.RulebookLaws.{first-is}
+use Rattle.layout.specs.Bytes.{momentOf}
 use Rattle.register.proofs.next_first.Statement.{statement}
 use Rattle.register.proofs.next_first.Tie as tie
 
+on-next : (c : tie.After-next-session) →
+    let a = c .before .before .before .before .args in
+    firstLive (expiryOf (a .calendar .now)) (c .next-session .result) ≡ firstAt (a .calendar .now) (next (rules (a .calendar .now)) (momentOf (a .register .now)))
+unfolding rules moved momentOf
+on-next c =
+    let a = c .before .before .before .before .args in
+    rw (c .next-session .ensures, c .before .word .ensures) (first-is (a .calendar .now) (next (rules (a .calendar .now)) (momentOf (a .register .now))))
+
+word-requires : tie.Need-word-requires
+word-requires c κs = search needs
+
 next-session-requires : tie.Need-next-session-requires
-next-session-requires c κs = search needs
+unfolding momentOf
+next-session-requires c κs = rw (c .word .ensures) (c .before .before .before .pre .2)
 
 first-live-requires : tie.Need-first-live-requires
 first-live-requires c κs = search needs
 
 returns : tie.Need-returns
-returns c = rw (c .before .before .next-session .ensures) at (c .first-live .ensures)
+returns c = c .first-live .ensures ∙ on-next (c .before .before)
 
 returns-2 : tie.Need-returns-2
-returns-2 c = sym (live-past _ _ (rw (c .before .next-session .ensures) at (c .if1 .left)))
+returns-2 c = sym (live-past _ (expiry-below _) _ (c .if1 .left)) ∙ on-next (c .before)
 
 pub next-first-spec : {M : Type 1} → statement M
-next-first-spec = tie.close (tie.spec next-session-requires first-live-requires returns returns-2)
+next-first-spec = tie.close (tie.spec word-requires next-session-requires first-live-requires returns returns-2)

@@ -9,17 +9,16 @@ use lib.ListN.{getD}
 use borrow.Author.Needs.{needs}
 use borrow.Author.Tests.{not-true, not-false}
 use Rattle.base.proofs.Tests.{clash}
-use Rattle.calendar.specs.Live.{firstLive, liveMonths}
-use Rattle.calendar.proofs.LiveLaws.{live-day}
-use Rattle.rules.specs.Rulebook.{rules}
+use Rattle.calendar.specs.Live.{liveMonths}
+use Rattle.rules.specs.Rulebook.{firstAt, rules}
 use Rattle.layout.specs.Register.{waitingOk}
 use Rattle.base.specs.Words.{at16}
-use Rattle.layout.specs.Bytes.{bodyOf}
+use Rattle.layout.specs.Bytes.{momentOf, bodyOf}
 use Rattle.layout.specs.Spans.{standingSpans}
 use Rattle.register.specs.Check.{Keeps}
 use Rattle.scan.specs.Scan.{rowsAt, ladderSpans}
 use Rattle.layout.proofs.ByteLaws.{places-none}
-use Rattle.register.proofs.Well.{run-keeps, run-session, run-first, run-held, run-spans, first-low, Scanned, spans-are, stands-if, none-stand, all-stand}
+use Rattle.register.proofs.Well.{first-read, run-keeps, run-session, run-first, run-day, run-held, run-spans, first-low, Scanned, spans-are, stands-if, none-stand, all-stand}
 use Rattle.register.proofs.standing.Statement.{statement}
 use Rattle.register.proofs.standing.Tie as tie
 
@@ -29,13 +28,13 @@ keeps c = c .before .keeps-layout .ensures .if-true (not-false _ (c .if1 .left))
 -- what the code took from the bytes
 first-is : (c : tie.After-first-live) →
     let a = c .before .before .before .before .before .before .before .before .before .args in
-    c .first-live .result ≡ firstLive (a .calendar .now) (at16 (a .register .now) 2)
-first-is c = rw (c .before .before .before .before .word .ensures) at (c .first-live .ensures)
+    c .first-live .result ≡ firstAt (a .calendar .now) (momentOf (a .register .now))
+first-is c = first-read _ _ (c .before .before .before .before .word .ensures) (c .first-live .ensures)
 
 spans-is : (c : tie.After-ladders) →
     let a = c .before .before .before .before .before .before .before .before .before .before .before .before .args in
     let bs = a .register .now in
-    let f = firstLive (a .calendar .now) (at16 bs 2) in
+    let f = firstAt (a .calendar .now) (momentOf bs) in
     c .ladders .result ≡ ladderSpans (at16 bs 2) f [] (liveMonths f) (rowsAt bs 136 (at16 bs 4))
 spans-is c = rw (first-is (c .before .before .before), c .before .before .before .before .before .before .before .word .ensures, c .before .word2 .ensures) at (c .ladders .ensures)
 
@@ -72,12 +71,13 @@ word-requires : tie.Need-word-requires
 word-requires c κs = search needs
 
 returns-2 : tie.Need-returns-2
+unfolding momentOf
 returns-2 c =
     let cal = c .before .before .before .before .before .before .args .calendar .now in
     let bs = c .before .before .before .before .before .before .args .register .now in
     let l = c .before .before .before .before .before .before .pre .1 in
     let d = c .before .word .ensures in
-    none-stand cal bs (λ r. omega (arith, c .if2 .taken, live-day cal (at16 bs 2) (omega (arith, run-first cal bs l r))))
+    none-stand cal bs (λ r. omega (arith, c .if2 .taken, run-day cal bs l r))
 
 has-session-requires : tie.Need-has-session-requires
 has-session-requires c κs = search needs
@@ -117,7 +117,7 @@ returns-5 c =
     let l = c .before .before .before .before .before .before .before .before .before .before .before .before .before .before .pre .1 in
     let e = spans-is (c .before .before) in
     none-stand cal bs
-    (λ r. first-low (firstLive cal (at16 bs 2)) (bodyOf bs) (run-held cal bs l r)
+    (λ r. first-low (firstAt cal (momentOf bs)) (bodyOf bs) (run-held cal bs l r)
     (sym (ap (λ (x : List (List ℕ)). getD (getD x 0 []) 0 0) (e ∙ run-spans cal bs l r)) ∙ c .if5 .taken))
 
 shared-slice-read-if6 : tie.Need-shared-slice-read-if6
@@ -130,6 +130,7 @@ returns-6 c =
     spans (c .before .before) (rw (places-none bs 8 (getD bs 1 0) (omega (arith, c .if6 .taken))))
 
 waiting-stands-requires : tie.Need-waiting-stands-requires
+unfolding momentOf
 waiting-stands-requires c κs =
     let cal = c .before .before .before .before .before .before .before .before .before .before .before .before .before .before .before .before .args .calendar .now in
     let bs = c .before .before .before .before .before .before .before .before .before .before .before .before .before .before .before .before .args .register .now in
@@ -137,8 +138,8 @@ waiting-stands-requires c κs =
     let s = scan (c .before .before) in
     let e = spans-are cal bs (p .1) (λ i. c .before .before .before .before .before .before .before .before .before .before .before .before .before .before .shared-slice-known2 .given i .fits) (c .before .before .before .before .ladders .result) s in
     let d = c .before .before .before .before .before .before .before .before .before .before .before .word .ensures in
-    let f = c .before .before .before .before .before .before .before .first-live .ensures in
-    (p .0, p .1, s .keeps .waiting, c .before .before .before .before .before .before .before .before .before .before .if2 .left, d, f, c .before .before .before .before .before .before .if4 .left, rw (f, d) e)
+    let f = first-is (c .before .before .before .before .before .before .before) in
+    (p .0, p .1, s .keeps .waiting, rw d at (c .before .before .before .before .before .before .before .before .before .before .if2 .left), f, c .before .before .before .before .before .before .if4 .left, rw f e)
 
 returns-7 : tie.Need-returns-7
 returns-7 c = none-stand _ _ (λ r. clash _ (c .before .waiting-stands .ensures ∙ r .well .waits) (not-true _ (c .if7 .taken)))

@@ -6,25 +6,25 @@ use Prim.Native.Nat.{_+_, _-_, _*_, _≤_}
 use native.Mathlib.Omega.{arith}
 use lib.ListN.{getD}
 use borrow.Author.Needs.{needs}
-use Rattle.calendar.specs.Calendar.{nextSession}
+use Rattle.rules.specs.Rules.{next}
 use Rattle.rules.specs.Rulebook.{rules}
 use Rattle.layout.specs.Register.{waitingOk}
 use Rattle.base.specs.Words.{at16}
-use Rattle.layout.specs.Bytes.{bodyOf}
+use Rattle.layout.specs.Bytes.{momentOf, bodyOf}
 use Rattle.layout.specs.Spans.{placesAt}
-use Rattle.calendar.proofs.LiveLaws.{live-top}
+use Rattle.rules.proofs.RulebookLaws.{first-top}
 use Rattle.register.proofs.Waiting.{causes-are, beside, waiting-start, waiting-end, waiting-stop, waiting-next}
 use Rattle.register.proofs.waiting_stands.Statement.{statement}
 use Rattle.register.proofs.waiting_stands.Tie as tie
 
 abbrev Inv-loop : tie.InvT-loop
-Inv-loop calendar register day first spans next places i₀ i =
+Inv-loop calendar register first spans next places i₀ i =
     (i ≤ places)
     × (waitingOk (rules calendar) (bodyOf register) [] (placesAt register 8 places)
     ≡ waitingOk (rules calendar) (bodyOf register) (placesAt register 8 i) (placesAt register (8 + 4 * i) (places - i)))
 
 abbrev μ-loop : tie.MeasureT-loop
-μ-loop calendar register day first spans next places i₀ i = places - i
+μ-loop calendar register first spans next places i₀ i = places - i
 
 refused : (c : tie.After-refusal Inv-loop μ-loop) →
     let a = c .before .before .before .before .before .before .before .before .before .before .args in
@@ -36,11 +36,11 @@ refused c =
     let bs = a .register .now in
     let i = c .before .before .before .before .before .loop .i in
     let p = c .before .before .before .before .before .before .before .before .before .before .pre in
-    let e = rw (c .before .before .before .before .before .before .before .next-first .ensures, c .before .waits-beside .ensures, c .before .before .before .word .ensures, c .before .before .word2 .ensures, p .7, p .5, p .4) at (c .refusal .ensures) in
-    e ∙ causes-are (a .calendar .now) (bodyOf bs) (placesAt bs 8 i ++ placesAt bs (8 + 4 * i + 4) (getD bs 1 0 - i - 1)) (at16 bs (8 + 4 * i)) (at16 bs (8 + 4 * i + 2))
+    let e = rw (c .before .before .before .before .before .before .before .next-first .ensures, c .before .waits-beside .ensures, c .before .before .before .word .ensures, c .before .before .word2 .ensures, p .6, p .4) at (c .refusal .ensures) in
+    e ∙ causes-are (a .calendar .now) (p .0) (bodyOf bs) (rw (p .4) at (p .5)) (placesAt bs 8 i ++ placesAt bs (8 + 4 * i + 4) (getD bs 1 0 - i - 1)) (at16 bs (8 + 4 * i)) (at16 bs (8 + 4 * i + 2))
 
 next-first-requires : tie.Need-next-first-requires Inv-loop μ-loop
-next-first-requires c κs = (c .before .before .pre .3, c .before .before .pre .0)
+next-first-requires c κs = let p = c .before .before .pre in (p .0, p .1, p .3)
 
 shared-slice-read-places : tie.Need-shared-slice-read-places Inv-loop μ-loop
 shared-slice-read-places c = search needs
@@ -81,8 +81,8 @@ waits-beside-requires c κs = search needs
 refusal-requires : tie.Need-refusal-requires Inv-loop μ-loop
 refusal-requires c κs =
     let cal = c .before .before .before .before .before .before .before .before .before .args .calendar .now in
-    let p = c .before .before .before .before .before .before .before .before .before .pre in
-    (p .5, p .6, omega (arith, c .before .before .before .before .before .before .next-first .ensures, live-top cal (nextSession cal (c .before .before .before .before .before .before .before .before .before .args .day))))
+    let bs = c .before .before .before .before .before .before .before .before .before .args .register .now in
+    (c .before .before .before .before .before .before .before .before .before .pre .5, omega (arith, c .before .before .before .before .before .before .next-first .ensures, first-top cal (next (rules cal) (momentOf bs))))
 
 returns : tie.Need-returns Inv-loop μ-loop
 unfolding bodyOf

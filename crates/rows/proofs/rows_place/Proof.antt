@@ -5,14 +5,11 @@ use mathlib.Core.List.{List}
 use Prim.Native.Nat.{ℕ, _≤_}
 use native.Mathlib.Omega.{arith}
 use borrow.Author.Needs.{needs}
-use Rattle.base.specs.Words.{at16}
-use Rattle.calendar.specs.Live.{firstLive}
-use Rattle.calendar.proofs.LiveLaws.{live-day}
 use Rattle.rules.specs.Rules.{lastFirstMonth}
-use Rattle.rules.specs.Rulebook.{rules}
-use Rattle.layout.specs.Bytes.{bodyOf}
+use Rattle.rules.specs.Rulebook.{firstAt, rules}
+use Rattle.layout.specs.Bytes.{momentOf, bodyOf}
 use Rattle.calls.specs.RowsCall.{rowsCause}
-use Rattle.register.proofs.Well.{run-first, run-held}
+use Rattle.register.proofs.Well.{first-read, run-first, run-day, run-held}
 use Rattle.register.proofs.Opens.{Runs, opening-refused, opening-goes, standing-refused, standing-runs}
 use Rattle.rows.proofs.MonthRows.{spans-order, rows-refused, rows-placed}
 use Rattle.rows.proofs.rows_place.Statement.{statement}
@@ -38,11 +35,11 @@ runs c =
     let k = c .before .before in
     standing-runs (cal (start c)) (bs (start c)) (o .opening .result) (o .opening .ensures) (e .if1 .left) (k .standing .result) (k .standing .ensures) (c .if2 .left)
 
-first-le : (c : tie.Else2) → firstLive (cal (start c)) (at16 (bs (start c)) 2) ≤ lastFirstMonth
+first-le : (c : tie.Else2) → firstAt (cal (start c)) (momentOf (bs (start c))) ≤ lastFirstMonth
 first-le c = run-first _ _ (runs c .reads .size) (runs c .run)
 
-first-is : (c : tie.After-first-live) → let s = start (c .before .before) in c .first-live .result ≡ firstLive (cal s) (at16 (bs s) 2)
-first-is c = rw (c .before .word .ensures) at (c .first-live .ensures)
+first-is : (c : tie.After-first-live) → let s = start (c .before .before) in c .first-live .result ≡ firstAt (cal s) (momentOf (bs s))
+first-is c = first-read _ _ (c .before .word .ensures) (c .first-live .ensures)
 
 opening-requires : tie.Need-opening-requires
 opening-requires c κs = search needs
@@ -85,17 +82,18 @@ word-requires : tie.Need-word-requires
 word-requires c κs = omega (arith, runs c .reads .size)
 
 first-live-requires : tie.Need-first-live-requires
+unfolding momentOf
 first-live-requires c κs =
     let s = start (c .before) in
-    let d = live-day (cal s) (at16 (bs s) 2) (omega (arith, first-le (c .before))) in
-    (omega (arith, c .word .ensures, d), runs (c .before) .reads .passes)
+    let r = runs (c .before) in
+    (rw (c .word .ensures) (run-day (cal s) (bs s) (r .reads .size) (r .run)), r .reads .passes)
 
 month-place-requires : tie.Need-month-place-requires
 month-place-requires c κs =
     let s = start (c .before .before) in
     let r = runs (c .before .before) in
     let h = run-held (cal s) (bs s) (r .reads .size) (r .run) in
-    (omega (arith, first-is c, first-le (c .before .before)), λ i l. rw (r .spans-are) (spans-order (firstLive (cal s) (at16 (bs s) 2)) (bodyOf (bs s)) h i l))
+    (omega (arith, first-is c, first-le (c .before .before)), λ i l. rw (r .spans-are) (spans-order (firstAt (cal s) (momentOf (bs s))) (bodyOf (bs s)) h i l))
 
 returns-3 : tie.Need-returns-3
 returns-3 c =
