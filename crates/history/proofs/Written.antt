@@ -110,7 +110,7 @@ waiting-grid R b past (w ∷ ws) k m p e =
 
 module _ (cal : List ℕ) (b : Body) (w : Facts (rules cal) b) where
   abbrev f : ℕ
-  f = firstLive (expiryOf cal) (b .at .day)
+  f = firstAt cal (b .at)
 
   abbrev holds : Held f (b .rows)
   holds = held cal b w

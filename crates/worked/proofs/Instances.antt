@@ -15,6 +15,7 @@ use Rattle.dates.specs.Months.{friday, monthDays, firstDay, thirdFriday}
 use Rattle.calendar.specs.Calendar.{session, nextSession, expiryOf}
 use Rattle.calendar.specs.Live.{firstLive, quarterly, nextQuarter, liveMonths, tierOf}
 use Rattle.grid.specs.Grid.{closeTaken}
+use Rattle.rules.specs.Rulebook as Rulebook
 use Rattle.rules.specs.Rulebook.{rules}
 use Rattle.calls.specs.Calls.{start}
 use Rattle.layout.specs.Register.{Body}
@@ -77,7 +78,7 @@ abbrev started : List ℕ
 started = afterAt (rules everyDay) (start 9816 241337) emptyRegister
 
 can-move : CanMove everyDay started 9817
-unfolding closeTaken within bodyOf momentOf startBody
+unfolding closeTaken within bodyOf momentOf startBody rules Rulebook.begun
 can-move =
     let w = start-written everyDay 9816 241337 start-16 refl in
     let b : Body = startBody (rules everyDay) (rules everyDay .begin 9816) 241337 in

@@ -15,8 +15,8 @@ use Rattle.base.specs.declared.Tier.{Tier}
 use Rattle.base.proofs.Tests.{byBool, byLe, and-l, and-r, and-i, eqb-self}
 use Rattle.calendar.specs.Calendar.{Passes, expiryOf, nextSession}
 use Rattle.calendar.specs.Live.{firstLive, liveMonths}
-use Rattle.calendar.proofs.Laws.{expiry-ascends, next-later}
-use Rattle.calendar.proofs.LiveLaws.{live-unexpired}
+use Rattle.calendar.proofs.Laws.{next-later}
+use Rattle.calendar.proofs.LiveLaws.{calendar-dated, dates-ascend, live-unexpired}
 use Rattle.grid.specs.Grid.{gridOf, requiredLow, requiredHigh, closeTaken}
 use Rattle.rules.specs.Rules.{Rules, Moment}
 use Rattle.rules.specs.Rulebook as Rulebook
@@ -134,7 +134,7 @@ module _ (cal : List ℕ) (passes : Passes cal) (day c m : ℕ) (t u : Tier) (li
       let n = next-later cal day in
       byLe m g
       (λ l. let e : m ≡ g = omega arith in rw e (omega arith))
-      (λ l. let y = expiry-ascends cal passes g m l (omega arith) in omega arith)
+      (λ l. let y = dates-ascend (expiryOf cal) (calendar-dated cal passes) g m l (omega arith) in omega arith)
 
   announce-number : (p : ℕ) (past : List ℕ) (ws : List (ℕ × ℕ)) → waitingOf m ws ≡ past → length ws ≡ length past → (ps : List ℕ)
       → announceable t u c past (p ∷ ps) ≡ true → number (rules cal) (announce m p) (running (body cal day c ws)) ≡ 0

@@ -95,7 +95,7 @@ module _ (cal : List ℕ) (day c : ℕ) where
 
   -- each row has origin 5
   start-origin : ofOrigin 5 (begun cal day c) ≡ begun cal day c
-  unfolding startBody
+  unfolding startBody rules Rulebook.begun
   start-origin =
       origin-rows 5 (rules cal .live (rules cal .begin day)) _ (λ m p. newEntry day 5)
       ∙ rowsOf-same (rules cal .live (rules cal .begin day)) _ _ (λ m p. newEntry day 5) (λ m p. newEntry day 5)
