@@ -9,7 +9,7 @@ use lib.Seq.{take-at, drop-at}
 use borrow.Rule.Slice.PartMut.{putMid}
 use Rattle.layout.specs.Register.{Body, running}
 use Rattle.base.specs.Words.{two}
-use Rattle.layout.specs.Bytes.{placesBytes, rowsBytes, padded, bodyBytes, bodyOf, bytesOf}
+use Rattle.layout.specs.Bytes.{placesBytes, rowsBytes, padded, bodyBytes, bodyOf, bytesOf, placesLength, rowsLength}
 use Rattle.layout.proofs.ByteLaws.{places-length, places-count}
 use Rattle.base.proofs.Parts.{whole-part, put-rest}
 use Rattle.calls.specs.Listing.{announceBody}
@@ -29,13 +29,13 @@ head n day count = 1 ∷ n ∷ day % 256 ∷ day / 256 ∷ count % 256 ∷ count
 
 -- n announcements P and what is behind the places; then the four bytes q of one more are written behind P
 module _ (n day count : ℕ) (P R : List ℕ) (l : length P ≡ 4 * n) (h : n < 32) (bs : List ℕ)
-    (e : bs ≡ head n day count ++ ((P ++ replicate (128 - length P) 0) ++ R)) (q last : List ℕ) (four : length q ≡ 4)
+    (e : bs ≡ head n day count ++ ((P ++ replicate (placesLength - length P) 0) ++ R)) (q last : List ℕ) (four : length q ≡ 4)
     (w : last ≡ q ++ drop 4 (take (length bs - (8 + 4 * n)) (drop (8 + 4 * n) bs))) where
   abbrev Z : List ℕ
   Z = replicate (124 - 4 * n) 0
 
-  zeros : replicate (128 - length P) 0 ≡ (0 ∷ 0 ∷ 0 ∷ 0 ∷ []) ++ Z
-  zeros = let k : 128 - length P ≡ suc (suc (suc (suc (124 - 4 * n)))) = omega arith in rw k
+  zeros : replicate (placesLength - length P) 0 ≡ (0 ∷ 0 ∷ 0 ∷ 0 ∷ []) ++ Z
+  zeros = let k : placesLength - length P ≡ suc (suc (suc (suc (124 - 4 * n)))) = omega arith in rw k
 
   apart : bs ≡ (head n day count ++ P) ++ ((0 ∷ 0 ∷ 0 ∷ 0 ∷ []) ++ (Z ++ R))
   apart = e ∙ rw (zeros, append-assoc P)
@@ -49,9 +49,9 @@ module _ (n day count : ℕ) (P R : List ℕ) (l : length P ≡ 4 * n) (h : n < 
   behind : drop 4 (drop (8 + 4 * n) bs) ≡ Z ++ R
   behind = ap (λ (z : List ℕ). drop 4 (drop (8 + 4 * n) z)) apart ∙ ap (drop 4) (drop-at (head n day count ++ P) ((0 ∷ 0 ∷ 0 ∷ 0 ∷ []) ++ (Z ++ R)) (8 + 4 * n) front)
 
-  stored : set (putMid (8 + 4 * n) (length bs - (8 + 4 * n)) bs last) 1 (n + 1) ≡ head (n + 1) day count ++ (((P ++ q) ++ replicate (128 - length (P ++ q)) 0) ++ R)
+  stored : set (putMid (8 + 4 * n) (length bs - (8 + 4 * n)) bs last) 1 (n + 1) ≡ head (n + 1) day count ++ (((P ++ q) ++ replicate (placesLength - length (P ++ q)) 0) ++ R)
   stored =
-      let k : 128 - length (P ++ q) ≡ 124 - 4 * n = omega (arith, length-append P q) in
+      let k : placesLength - length (P ++ q) ≡ 124 - 4 * n = omega (arith, length-append P q) in
       let put : putMid (8 + 4 * n) (length bs - (8 + 4 * n)) bs last ≡ (head n day count ++ P) ++ (q ++ (Z ++ R)) =
       put-rest (8 + 4 * n) bs last ∙ rw (before, w, whole-part (8 + 4 * n) bs, behind) in
       rw (put, k, append-assoc (P ++ q), append-assoc P q)
@@ -67,7 +67,7 @@ module _ (bs : List ℕ) (ok : Room bs) (m p : ℕ) where
       → set (putMid (8 + 4 * length (b .waiting)) (length bs - (8 + 4 * length (b .waiting))) bs last) 1 (length (b .waiting) + 1) ≡ bytesOf (running (announceBody b m p))
   unfolding bytesOf bodyBytes two padded announceBody
   put-any b e h last w =
-      stored (length (b .waiting)) (b .at .day) (length (b .rows)) (placesBytes (b .waiting)) (padded 11128 (rowsBytes (b .rows))) (places-length (b .waiting)) h bs e
+      stored (length (b .waiting)) (b .at .day) (length (b .rows)) (placesBytes (b .waiting)) (padded rowsLength (rowsBytes (b .rows))) (places-length (b .waiting)) h bs e
       (placeBytes m p) last refl w
       ∙ rw (places-more (b .waiting) m p, length-more (b .waiting) m p)
 

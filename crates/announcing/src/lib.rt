@@ -1,7 +1,11 @@
 // Announce on the register's bytes, and each of the three calls by its kind.
+use base::causes;
 use calls::Told;
+use layout::DAY;
 use layout::MOST_WAITING;
+use layout::PLACE_LENGTH;
 use layout::PLACES;
+use layout::WAITING;
 ghost use mathlib.Core.Path.{_≡_};
 ghost use mathlib.Core.Bool.{true};
 ghost use mathlib.Core.List.{_++_};
@@ -35,10 +39,10 @@ fn put_announcement(register: &mut [u8], month: u16, price: u16) -> u16
     ensures { λ r. ⌜ r ≡ length (announceBody (bodyOf (now (register .entry))) month price .waiting) ⌝ }
     ensures { λ _. ⌜ now (register .exit) ≡ bytesOf (running (announceBody (bodyOf (now (register .entry))) month price)) ⌝ }
 {
-    let waiting = register[1];
-    let at = PLACES + 4 * (waiting as usize);
+    let waiting = register[WAITING];
+    let at = PLACES + PLACE_LENGTH * (waiting as usize);
     write_place(&mut register[at..], month, price);
-    register[1] = waiting + 1;
+    register[WAITING] = waiting + 1;
     (waiting as u16) + 1
 }
 
@@ -55,15 +59,19 @@ fn announce_cause(
     requires { ⌜ spans ≡ spansOf (bodyOf (now register)) (liveMonths (firstAt (now calendar) (momentOf (now register)))) ⌝ }
     ensures { λ r. ⌜ r ≡ number (rules (now (calendar .entry))) (Call.announce month price) (running (bodyOf (now (register .entry)))) ⌝ }
 {
-    let first = calendar::first_live(calendar, base::word(register, 2));
+    let first = calendar::first_live(calendar, base::word(register, DAY));
     let next = register::next_first(calendar, register);
-    let places = register[1] as usize;
+    let places = register[WAITING] as usize;
     let waits = register::waits(register, PLACES, places, month, price);
     let number = register::refusal(first, next, spans, waits, month, price);
     if number != 0 {
         return number;
     }
-    if MOST_WAITING <= places { 25 } else { 0 }
+    if MOST_WAITING <= places {
+        causes::ANNOUNCE_FULL
+    } else {
+        0
+    }
 }
 
 // Month and price, to be introduced by the next session. An entry point: it takes any bytes and any numbers.
@@ -82,7 +90,7 @@ pub fn announce(calendar: &[u8], register: &mut [u8], month: u32, price: u32) ->
     let span = spans[0];
     if span[0] == 0 {
         return Told {
-            number: 15,
+            number: causes::REGISTER_FORM,
             value: 0,
         };
     }

@@ -1,5 +1,6 @@
 // The session calendar: its check, expiry dates, and the live months.
 use base::Tier;
+use base::causes;
 use dates::DAYS;
 use dates::MONTHS;
 ghost use mathlib.Core.Path.{_≡_};
@@ -121,19 +122,22 @@ pub fn check(calendar: &[u8]) -> Checked
 {
     if calendar.len() != CALENDAR_LENGTH {
         return Checked {
-            number: 11,
+            number: causes::CALENDAR_LENGTH,
             month: 0,
         };
     }
     if 32 <= calendar[4565] {
         return Checked {
-            number: 12,
+            number: causes::CALENDAR_TAIL,
             month: 0,
         };
     }
     let month = first_lacking(calendar);
     if month < MONTHS {
-        return Checked { number: 13, month };
+        return Checked {
+            number: causes::CALENDAR_MONTH,
+            month,
+        };
     }
     Checked {
         number: 0,

@@ -14,7 +14,7 @@ use Rattle.base.specs.Causes.{firstOf}
 use Rattle.base.proofs.Tests.{byBool, and-l, and-r, and-i, or-fl}
 use Rattle.base.proofs.ListLaws.{elem-here, elem-there}
 use Rattle.base.proofs.CauseLaws.{none-of, not-cause}
-use Rattle.rules.specs.Rules.{Moment, Rules, next}
+use Rattle.rules.specs.Rules.{Moment, Rules, next, lastFirstMonth}
 use Rattle.rules.specs.Rulebook.{rules}
 use Rattle.calls.specs.Calls.{Call}
 use Rattle.rules.proofs.Laws.{Laws, total}
@@ -70,7 +70,7 @@ rows-fit-of d (m ∷ ms) G f hd hm hp k =
     (rows-fit-of d ms G f hd (λ n e. hm n (elem-there n m ms e)) hp)
 
 module _ (R : Rules) (L : Laws R) where
-  places-fit : (b : Body) → leb (R .firstLive (b .at)) 1190 ≡ true → (past ws : List (ℕ × ℕ)) → waitingOk R b past ws ≡ true → PlacesFit ws
+  places-fit : (b : Body) → leb (R .firstLive (b .at)) lastFirstMonth ≡ true → (past ws : List (ℕ × ℕ)) → waitingOk R b past ws ≡ true → PlacesFit ws
   unfolding waitingOk announceCauses
   places-fit b fl past [] k = tt
   places-fit b fl past (w ∷ ws) k =

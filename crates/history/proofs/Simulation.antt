@@ -14,7 +14,7 @@ use Rattle.base.proofs.Tests.{byBool, clash, and-l, and-r, and-i, or-l, or-r, o
 use Rattle.base.proofs.ListLaws.{within-i, within-l, within-r, elem-select, least-le, greatest-ge, least-P, greatest-P, least-is, greatest-is}
 use Rattle.base.proofs.CauseLaws.{none-of, not-cause}
 use Rattle.grid.specs.Grid.{closeTaken}
-use Rattle.rules.specs.Rules.{Moment, Rules, next}
+use Rattle.rules.specs.Rules.{Moment, Rules, next, lastFirstMonth}
 use Rattle.calls.specs.Calls.{Call, start, session, announce}
 use Rattle.rules.proofs.Laws.{Laws}
 use Rattle.layout.specs.Rows.{Entry, newEntry, rowsOf, find, pricesOf}
@@ -311,7 +311,7 @@ module _ (R : Rules) where
       not-false _ (not-cause _ 22 (none-of _ _ z₂ .0))
 
   pub session-told : (b : Body) (d c : ℕ) → number R (session d c) (running b) ≡ 0
-      → (d ≡ R .nextDay (b .at)) × (ltb 1190 (R .firstLive (R .move (b .at) d)) ≡ false) × (closeTaken c ≡ true)
+      → (d ≡ R .nextDay (b .at)) × (ltb lastFirstMonth (R .firstLive (R .move (b .at) d)) ≡ false) × (closeTaken c ≡ true)
   unfolding number
   session-told b d c z =
       let z₁ = none-of _ _ z .1 in

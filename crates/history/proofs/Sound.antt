@@ -13,7 +13,7 @@ use Rattle.base.specs.Causes.{firstOf}
 use Rattle.base.proofs.Tests.{byBool, and-l, and-r, and-i, or-fr, eqb-self}
 use Rattle.base.proofs.CauseLaws.{none-of, not-cause}
 use Rattle.dates.specs.Months.{dayCount}
-use Rattle.rules.specs.Rules.{Moment, Rules}
+use Rattle.rules.specs.Rules.{Moment, Rules, lastFirstMonth}
 use Rattle.calls.specs.Calls.{Call, start, session, announce}
 use Rattle.rules.proofs.Laws.{Laws}
 use Rattle.layout.specs.Rows.{Entry, newEntry, entryOk, Row, ladder, rowsOf, find}
@@ -27,7 +27,7 @@ use Rattle.history.proofs.Simulation.{Running, low-there, span-low, spa
 pub record Sound (R : Rules) (b : Body) : Type 0 where
   pub session-day : R .isSession (b .at .day) ≡ true
   pub good-at : R .good (b .at) ≡ true
-  pub live-ok : leb (R .firstLive (b .at)) 1190 ≡ true
+  pub live-ok : leb (R .firstLive (b .at)) lastFirstMonth ≡ true
   pub rows-ok : entriesOk (b .at .day) (b .rows) ≡ true
   pub short : leb (length (b .waiting)) 32 ≡ true
   pub waiting-ok : waitingOk R b [] (b .waiting) ≡ true
@@ -170,14 +170,14 @@ module _ (R : Rules) where
       origin-range (not (elem m (R .live (b .at)))) (within (spanLow b m) (spanHigh b m) p) (within (closeLow R b d c m) (closeHigh R b d c m) p)
 
   module _ (L : Laws R) where
-    sound-session : (b : Body) (d c : ℕ) → Sound R b → d ≡ R .nextDay (b .at) → ltb 1190 (R .firstLive (R .move (b .at) d)) ≡ false
+    sound-session : (b : Body) (d c : ℕ) → Sound R b → d ≡ R .nextDay (b .at) → ltb lastFirstMonth (R .firstLive (R .move (b .at) d)) ≡ false
         → Sound R (sessionBody R b (R .move (b .at) d) c)
     unfolding sessionBody waitingOk
     sound-session b d c v nx fl =
         let x : Moment = R .move (b .at) d in
         let le = L .later (b .at) in
         let dy : R .move (b .at) d .day ≡ d = L .move-day (b .at) d in
-        let fl′ : leb (R .firstLive x) 1190 ≡ true = le-leb _ 1190 (ltb-false 1190 (R .firstLive x) fl) in
+        let fl′ : leb (R .firstLive x) lastFirstMonth ≡ true = le-leb _ lastFirstMonth (ltb-false lastFirstMonth (R .firstLive x) fl) in
         record {
           session-day = rw (dy, nx) (L .next-session (b .at) (v .good-at) (rw nx at fl′));
           good-at = rw nx (L .good-move (b .at) (v .good-at));
@@ -188,14 +188,14 @@ module _ (R : Rules) where
           waiting-ok = refl;
         }
 
-    sound-start : (d c : ℕ) → R .isSession d ≡ true → ltb 1190 (R .firstLive (R .begin d)) ≡ false → Sound R (startBody R (R .begin d) c)
+    sound-start : (d c : ℕ) → R .isSession d ≡ true → ltb lastFirstMonth (R .firstLive (R .begin d)) ≡ false → Sound R (startBody R (R .begin d) c)
     unfolding startBody waitingOk within
     sound-start d c sd fl =
         let x : Moment = R .begin d in
         record {
           session-day = rw (L .begin-day d) sd;
           good-at = L .good-begin d;
-          live-ok = le-leb _ 1190 (ltb-false 1190 (R .firstLive x) fl);
+          live-ok = le-leb _ lastFirstMonth (ltb-false lastFirstMonth (R .firstLive x) fl);
           rows-ok = ok-rows (x .day) (R .live x) (listed R x (λ m. R .needLow x true m c) (λ m. R .needHigh x true m c)) (λ m p. newEntry (x .day) 5) (λ m p. entry-new (x .day) 5 refl);
           short = refl;
           waiting-ok = refl;

@@ -1,7 +1,7 @@
 // Writing a line of the journal. Every call whose numbers have at most nine digits reads back.
+use base::causes;
 use calls::ANNOUNCE;
 use calls::START;
-use base::causes;
 use dates::DAYS;
 use dates::MONTHS;
 use phrases::fill;

@@ -9,7 +9,7 @@ use lib.ListN.{length, take, drop, replicate, length-append, length-drop, take-a
 use lib.Seq.{take-at, drop-at, drop-drop, take-all, length-take-le}
 use borrow.Rule.Slice.PartMut.{putMid}
 use Rattle.layout.specs.Rows.{Row}
-use Rattle.layout.specs.Bytes.{registerLength, rowsBytes, padded}
+use Rattle.layout.specs.Bytes.{registerLength, rowsBytes, padded, rowsFrom, rowsLength}
 use Rattle.base.specs.Words.{two}
 use Rattle.layout.proofs.ByteLaws.{rows-length}
 use Rattle.ladders.specs.declared.Plan.{Plan}
@@ -34,7 +34,7 @@ module _ (first : ℕ) (plans : ℕ → Plan) (start old : List ℕ) where
 
   -- the register up to where the rows end
   abbrev pub upToEnd : List ℕ
-  upToEnd = take 136 start ++ rowsBytes rows
+  upToEnd = take rowsFrom start ++ rowsBytes rows
 
   -- what the loop keeps at a month: the ladders before it stand, and what follows is still to be written
   pub record Inv (register : List ℕ) (at from i : ℕ) : Type 0 where
@@ -42,25 +42,25 @@ module _ (first : ℕ) (plans : ℕ → Plan) (start old : List ℕ) where
     pub size : length register ≡ length start
     pub done : register ≡ take at upToEnd ++ drop at start
     pub more : drop at upToEnd ≡ rowsBytes (laddersFrom plans i (6 - i) (rowsIn (drop from old)))
-    pub end : at + 8 * countFrom plans i (6 - i) ≡ 136 + 8 * countFrom plans 0 6
+    pub end : at + 8 * countFrom plans i (6 - i) ≡ rowsFrom + 8 * countFrom plans 0 6
     pub from-in : from ≤ length old
 
   module _ (size : length start ≡ registerLength) (ready : Ready first plans) where
-    front : length (take 136 start) ≡ 136
-    front = length-take-le 136 start (omega arith)
+    front : length (take rowsFrom start) ≡ rowsFrom
+    front = length-take-le rowsFrom start (omega arith)
 
     bytes-count : length (rowsBytes rows) ≡ 8 * countFrom plans 0 6
     bytes-count = rows-length rows ∙ ap (λ (n : ℕ). 8 * n) (ladders-count plans 0 6 (rowsIn old))
 
-    end-length : length upToEnd ≡ 136 + 8 * countFrom plans 0 6
-    end-length = length-append (take 136 start) (rowsBytes rows) ∙ rw (front, bytes-count)
+    end-length : length upToEnd ≡ rowsFrom + 8 * countFrom plans 0 6
+    end-length = length-append (take rowsFrom start) (rowsBytes rows) ∙ rw (front, bytes-count)
 
-    pub begin : Inv start 136 0 0
+    pub begin : Inv start rowsFrom 0 0
     begin = record {
       count = omega arith;
       size = refl;
-      done = sym (rw (take-at (take 136 start) (rowsBytes rows) 136 front) (take-append-drop 136 start));
-      more = drop-at (take 136 start) (rowsBytes rows) 136 front;
+      done = sym (rw (take-at (take rowsFrom start) (rowsBytes rows) rowsFrom front) (take-append-drop rowsFrom start));
+      more = drop-at (take rowsFrom start) (rowsBytes rows) rowsFrom front;
       end = refl;
       from-in = omega arith;
     }
@@ -109,15 +109,15 @@ module _ (first : ℕ) (plans : ℕ → Plan) (start old : List ℕ) where
             }
 
       module _ (h : 6 ≤ i) where
-        pub at-end : at ≡ 136 + 8 * length rows
+        pub at-end : at ≡ rowsFrom + 8 * length rows
         unfolding countFrom
         at-end =
             let e : 6 - i ≡ 0 = omega arith in
-            let c : at + 8 * countFrom plans i 0 ≡ 136 + 8 * countFrom plans 0 6 = rw e at (inv .end) in
+            let c : at + 8 * countFrom plans i 0 ≡ rowsFrom + 8 * countFrom plans 0 6 = rw e at (inv .end) in
             omega (arith, ladders-count plans 0 6 (rowsIn old))
 
         pub cleared : (last : List ℕ) → last ≡ replicate (length (take (length register - at) (drop at register))) 0
-            → putMid at (length register - at) register last ≡ take 136 start ++ padded 11128 (rowsBytes rows)
+            → putMid at (length register - at) register last ≡ take rowsFrom start ++ padded rowsLength (rowsBytes rows)
         unfolding padded
         cleared last w =
             let e = at-end in
@@ -125,6 +125,6 @@ module _ (first : ℕ) (plans : ℕ → Plan) (start old : List ℕ) where
             let t : take at register ≡ upToEnd =
             rw (inv .done)
             (take-at (take at upToEnd) (drop at start) at (length-take-le at upToEnd (omega (arith, inv .end, end-length)))
-            ∙ take-all at upToEnd (omega (arith, length-append (take 136 start) (rowsBytes rows), front))) in
-            let n : length register - at ≡ 11128 - length (rowsBytes rows) = omega (arith, inv .size) in
-            put-rest at register last ∙ rw (w, whole-part at register, length-drop, t, n, append-assoc)
+            ∙ take-all at upToEnd (omega (arith, length-append (take rowsFrom start) (rowsBytes rows), front))) in
+            let n : length register - at ≡ rowsLength - length (rowsBytes rows) = omega (arith, inv .size) in
+            put-rest at register last ∙ rw (w, whole-part at register, length-drop, t, n) (append-assoc (take rowsFrom start) (rowsBytes rows) (replicate (rowsLength - length (rowsBytes rows)) 0))

@@ -3,6 +3,10 @@ pub mod spans;
 
 use base::Tier;
 use grid::Strikes;
+use layout::FIRST_DAY;
+use layout::ORIGIN;
+use layout::PRICE;
+use layout::ROW_LENGTH;
 ghost use mathlib.Core.Path.{_≡_};
 ghost use mathlib.Core.List.{_++_};
 ghost use Prim.Native.Nat.{_+_, _*_, _≤_, _<_};
@@ -74,11 +78,11 @@ fn added_origin(plan: Plan, price: u16) -> u8
 fn next_price(plan: Plan, old: &[u8]) -> u16
     ensures { λ r. ⌜ r ≡ nextPrice plan (rowsIn (now (old .entry))) ⌝ }
 {
-    if old.len() < 8 {
+    if old.len() < ROW_LENGTH {
         return 0;
     }
     if plan.month == base::word(old, 0) {
-        base::word(old, 2)
+        base::word(old, PRICE)
     } else {
         0
     }
@@ -118,13 +122,13 @@ fn stretch_from(plan: Plan, old: &[u8], price: u64) -> Stretch
     let tier = plan.tier;
     let band = grid::band_of(price, grid::stride_of(tier) as u64);
     if price == next as u64 {
-        let first = base::word(old, 4);
+        let first = base::word(old, FIRST_DAY);
         return Stretch {
             end: price + 1,
             step: band.step,
             first: first,
-            origin: old[6],
-            used: 8,
+            origin: old[ORIGIN],
+            used: ROW_LENGTH,
         };
     }
     let origin = added_origin(plan, price as u16);

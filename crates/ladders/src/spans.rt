@@ -1,5 +1,7 @@
 // The six spans of a start or a session, each the lowest and the highest price, in the order of the live months.
+use layout::PLACE_LENGTH;
 use layout::PLACES;
+use layout::PRICE;
 ghost use mathlib.Core.Path.{_≡_};
 ghost use Prim.Native.Nat.{_≤_, min, max};
 ghost use lib.ListN.{length, getD, drop};
@@ -92,8 +94,8 @@ fn with_announced(register: &[u8], n: usize, month: u16, span: [u16; 2]) -> [u16
     let mut high = span[1];
     let mut k: usize = 0;
     while k < n {
-        if base::word(register, PLACES + 4 * k) == month {
-            let price = base::word(register, PLACES + 4 * k + 2);
+        if base::word(register, PLACES + PLACE_LENGTH * k) == month {
+            let price = base::word(register, PLACES + PLACE_LENGTH * k + PRICE);
             low = lower(price, low);
             high = higher(price, high);
         }

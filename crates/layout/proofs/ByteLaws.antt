@@ -12,7 +12,7 @@ use Rattle.base.proofs.Tests.{and-i, eqb-self, and-l, and-r, byBool}
 use Rattle.layout.specs.Rows.{Row}
 use Rattle.layout.specs.Register.{Body, Reg, empty, running}
 use Rattle.base.specs.Words.{two, at16}
-use Rattle.layout.specs.Bytes.{placesBytes, rowsBytes, padded, bodyBytes, bytesOf, readPlaces, readRows, momentOf, bodyOf, allZero, regOf, sameBytes, inLayout}
+use Rattle.layout.specs.Bytes.{placesBytes, rowsBytes, padded, bodyBytes, bytesOf, readPlaces, readRows, momentOf, bodyOf, allZero, regOf, sameBytes, inLayout, mostRows, registerLength, placesLength, rowsLength}
 use native.Mathlib.Nat.{add-zero}
 use Rattle.base.proofs.WordLaws.{at16-drop, word-back}
 use borrow.Author.Tests.{eqb-false, eqb-true, ne-eqb}
@@ -36,7 +36,7 @@ RowsFit (r ∷ rs) = RowFits r × RowsFit rs
 pub record Fits (b : Body) : Type 0 where
   pub day-fits : b .at .day < 65536
   pub waiting-fits : length (b .waiting) ≤ 32
-  pub rows-fit : length (b .rows) ≤ 1391
+  pub rows-fit : length (b .rows) ≤ mostRows
   pub places : PlacesFit (b .waiting)
   pub each : RowsFit (b .rows)
 
@@ -66,7 +66,7 @@ unfolding padded
 padded-length n xs h = rw (length-append, length-replicate) (omega arith)
 
 module _ (b : Body) (f : Fits b) where
-  pub body-length : length (bodyBytes b) ≡ 11264
+  pub body-length : length (bodyBytes b) ≡ registerLength
   unfolding bodyBytes two
   body-length =
       let p = places-length (b .waiting) in
@@ -74,9 +74,9 @@ module _ (b : Body) (f : Fits b) where
       let w = f .waiting-fits in
       let n = f .rows-fit in
       rw (
-        length-append (padded 128 (placesBytes (b .waiting))),
-        padded-length 128 (placesBytes (b .waiting)) (omega arith),
-        padded-length 11128 (rowsBytes (b .rows)) (omega arith),
+        length-append (padded placesLength (placesBytes (b .waiting))),
+        padded-length placesLength (placesBytes (b .waiting)) (omega arith),
+        padded-length rowsLength (rowsBytes (b .rows)) (omega arith),
       )
 
   pub day-back : at16 (bodyBytes b) 2 ≡ b .at .day
@@ -99,9 +99,9 @@ module _ (b : Body) (f : Fits b) where
       let w = f .waiting-fits in
       rw (
         word-back (length (b .rows)) (omega arith),
-        drop-at (padded 128 (placesBytes (b .waiting))) (padded 11128 (rowsBytes (b .rows))) 128 (padded-length 128 (placesBytes (b .waiting)) (omega arith)),
+        drop-at (padded placesLength (placesBytes (b .waiting))) (padded rowsLength (rowsBytes (b .rows))) placesLength (padded-length placesLength (placesBytes (b .waiting)) (omega arith)),
       )
-      (rows-back (b .rows) (replicate (11128 - length (rowsBytes (b .rows))) 0) (f .each))
+      (rows-back (b .rows) (replicate (rowsLength - length (rowsBytes (b .rows))) 0) (f .each))
 
   pub count-back : at16 (bodyBytes b) 4 ≡ length (b .rows)
   unfolding bodyBytes at16 two
@@ -136,12 +136,12 @@ RegFits (running b) = Fits b
 
 pub back : (r : Reg) → RegFits r → regOf (bytesOf r) ≡ r
 unfolding bytesOf regOf
-back empty f = rw (zeros-zero 11264)
+back empty f = rw (zeros-zero registerLength)
 back (running b) f = reg-back b f
 
-pub bytes-length : (r : Reg) → RegFits r → length (bytesOf r) ≡ 11264
+pub bytes-length : (r : Reg) → RegFits r → length (bytesOf r) ≡ registerLength
 unfolding bytesOf
-bytes-length empty f = length-replicate {A = ℕ} 11264 0
+bytes-length empty f = length-replicate {A = ℕ} registerLength 0
 bytes-length (running b) f = body-length b f
 
 pub layout-kept : (r : Reg) → RegFits r → inLayout (bytesOf r) ≡ true

@@ -10,19 +10,26 @@ use Rattle.layout.specs.Rows.{Row, row}
 use Rattle.layout.specs.Register.{mostWaiting, Body, Reg, empty, running}
 use Rattle.base.specs.Words.{at16, two}
 
+-- its length, and how many rows may stand
 abbrev pub registerLength : ℕ
 registerLength = 11264
 
--- how many rows may stand
 abbrev pub mostRows : ℕ
 mostRows = 1391
 
--- where the announcements and the rows begin
+-- where the announcements begin, and how many bytes their 32 places of 4 take
 abbrev pub placesFrom : ℕ
 placesFrom = 8
 
+abbrev pub placesLength : ℕ
+placesLength = 128
+
+-- where the rows begin, and how many bytes 1,391 places of 8 take
 abbrev pub rowsFrom : ℕ
 rowsFrom = 136
+
+abbrev pub rowsLength : ℕ
+rowsLength = 11128
 
 -- ---- written
 
@@ -46,7 +53,7 @@ unfoldable pub bodyBytes : Body → List ℕ
 bodyBytes b =
     1
     ∷ length (b .waiting)
-    ∷ two (b .at .day) (two (length (b .rows)) (0 ∷ 0 ∷ (padded (4 * mostWaiting) (placesBytes (b .waiting)) ++ padded (8 * mostRows) (rowsBytes (b .rows)))))
+    ∷ two (b .at .day) (two (length (b .rows)) (0 ∷ 0 ∷ (padded placesLength (placesBytes (b .waiting)) ++ padded rowsLength (rowsBytes (b .rows)))))
 
 unfoldable pub bytesOf : Reg → List ℕ
 bytesOf empty = replicate registerLength 0

@@ -3,7 +3,7 @@
 ghost use mathlib.Core.Path.{_≡_};
 ghost use Rattle.layout.specs.Bytes.{allZero};
 
-// The register's length in bytes, and where its announcements and its rows begin.
+// The register's length in bytes.
 pub const REGISTER_LENGTH: usize = 11264;
 
 // How many announcements may wait, and how many rows may stand.
@@ -11,9 +11,32 @@ pub const MOST_WAITING: usize = 32;
 
 pub const MOST_ROWS: usize = 1391;
 
+// Where the head has its status, the number of announcements waiting, its day and its row count, and two bytes that are zero.
+pub const STATUS: usize = 0;
+
+pub const WAITING: usize = 1;
+
+pub const DAY: usize = 2;
+
+pub const COUNT: usize = 4;
+
+pub const SPARE: usize = 6;
+
+// Where the announcements and the rows begin, and how many bytes the place of one takes.
 pub const PLACES: usize = 8;
 
+pub const PLACE_LENGTH: usize = 4;
+
 pub const ROWS: usize = 136;
+
+pub const ROW_LENGTH: usize = 8;
+
+// Where an announcement or a row has its price behind its month, and a row its first day and its origin.
+pub const PRICE: usize = 2;
+
+pub const FIRST_DAY: usize = 4;
+
+pub const ORIGIN: usize = 6;
 
 // Whether all bytes are zero. The loop does not leave early and keeps the greatest byte, so that the compiler vectorises it.
 pub fn is_zero(bytes: &[u8]) -> bool

@@ -19,7 +19,7 @@ use Rattle.rules.specs.Rules.{Rules, next}
 use Rattle.rules.specs.Rulebook.{firstAt, tierAt, rules}
 use Rattle.layout.specs.Rows.{Row}
 use Rattle.layout.specs.Register.{Body, waitingOf, announceCauses, waitingOk}
-use Rattle.layout.specs.Bytes.{registerLength, placesBytes, rowsBytes, padded, bodyBytes, readPlaces, readRows, momentOf, bodyOf}
+use Rattle.layout.specs.Bytes.{registerLength, placesBytes, rowsBytes, padded, bodyBytes, readPlaces, readRows, momentOf, bodyOf, rowsFrom, rowsLength, placesLength}
 use Rattle.base.specs.Words.{two, at16}
 use Rattle.layout.proofs.ByteLaws.{places-length, rows-length, padded-length, places-count, rows-count}
 use Rattle.layout.proofs.Held.{Held, Facts}
@@ -73,7 +73,7 @@ module _ (cal bs : List ℕ) (size : length bs ≡ registerLength) (run : Runnin
   old = record {
     at = momentOf bs;
     waiting = readPlaces (getD bs 1 0) (drop 8 bs);
-    rows = readRows (at16 bs 4) (drop 136 bs);
+    rows = readRows (at16 bs 4) (drop rowsFrom bs);
   }
 
   pub well : Facts (rules cal) old
@@ -81,16 +81,16 @@ module _ (cal bs : List ℕ) (size : length bs ≡ registerLength) (run : Runnin
   well = run .well
 
   pub row-count : length (old .rows) ≡ at16 bs 4
-  row-count = rows-count (at16 bs 4) (drop 136 bs)
+  row-count = rows-count (at16 bs 4) (drop rowsFrom bs)
 
-  pub rows-laid : drop 136 bs ≡ padded 11128 (rowsBytes (old .rows))
+  pub rows-laid : drop rowsFrom bs ≡ padded rowsLength (rowsBytes (old .rows))
   unfolding bodyOf bodyBytes two
   rows-laid =
       let p = places-length (old .waiting) in
       let w = run-keeps cal bs size run .waiting in
       let c = places-count (getD bs 1 0) (drop 8 bs) in
-      ap (drop 136) (run .written)
-      ∙ drop-at (padded 128 (placesBytes (old .waiting))) (padded 11128 (rowsBytes (old .rows))) 128 (padded-length 128 (placesBytes (old .waiting)) (omega arith))
+      ap (drop rowsFrom) (run .written)
+      ∙ drop-at (padded placesLength (placesBytes (old .waiting))) (padded rowsLength (rowsBytes (old .rows))) placesLength (padded-length placesLength (placesBytes (old .waiting)) (omega arith))
 
   pub holds : Held (firstAt cal (momentOf bs)) (old .rows)
   unfolding bodyOf

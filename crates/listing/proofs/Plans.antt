@@ -23,6 +23,7 @@ use Rattle.rules.proofs.RulebookLaws.{grid-rises, laws}
 use Rattle.ladders.specs.declared.Plan.{Plan}
 use Rattle.ladders.specs.Writing.{pricesIn, Spanned, Ready}
 use Rattle.ladders.proofs.Relisted.{At, count-over}
+use Rattle.layout.specs.Bytes.{mostRows}
 
 pub prices-rise : (m : Plan) → rises 0 (pricesIn m) ≡ true
 unfolding pricesIn
@@ -58,7 +59,7 @@ module _ (cal : List ℕ) (x : Moment) (F : ℕ → Plan) (tier-is : (m : ℕ) �
   unfolding pricesIn
   in-grid m = rw (← tier-is m) (select-count (within (F m .span .low) (F m .span .high)) (gridOf (F m .tier)))
 
-  all-fit : total (λ m. pricesIn (F m)) (liveMonths (firstAt cal x)) ≤ 1391
+  all-fit : total (λ m. pricesIn (F m)) (liveMonths (firstAt cal x)) ≤ mostRows
   unfolding rules tierAt
   all-fit =
       let a = total-le (λ m. pricesIn (F m)) (λ m. gridOf (tierOf (firstAt cal x) m)) (liveMonths (firstAt cal x)) in-grid in

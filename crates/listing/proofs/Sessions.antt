@@ -30,7 +30,7 @@ use Rattle.rules.proofs.RulebookLaws.{laws, grid-rises, live-rises, first-later
 use Rattle.rules.proofs.NextLaws.{moves-by-one}
 use Rattle.layout.specs.Rows.{Entry, newEntry, Row, ladder, rowsOf, find}
 use Rattle.layout.specs.Register.{Body, running, waitingOf, spanLow, spanHigh, listed}
-use Rattle.layout.specs.Bytes.{registerLength, mostRows, rowsBytes, padded, bytesOf, momentOf}
+use Rattle.layout.specs.Bytes.{registerLength, mostRows, rowsBytes, padded, bytesOf, momentOf, rowsFrom, rowsLength}
 use Rattle.base.specs.Words.{at16}
 use Rattle.layout.specs.Spans.{spansOf, spanIn}
 use Rattle.layout.proofs.RowLaws.{rowsOf-same, ladder-length}
@@ -378,9 +378,9 @@ module _ (cal bs : List ℕ) (day close : ℕ) (size : length bs ≡ registerLen
         (count-append (of (λ m. not (elem m (liveMonths g)))) gone staying
         ∙ rw (s .all-gone, rows-none (λ m. not (elem m (liveMonths g))) stay G (h .entry) (λ m e. rw (s .live-both m e .1))) (omega arith))
 
-    old-rows : (n : ℕ) → n ≡ length staying → rowsIn (take (8 * n) (drop (136 + 8 * length gone) bs)) ≡ staying
+    old-rows : (n : ℕ) → n ≡ length staying → rowsIn (take (8 * n) (drop (rowsFrom + 8 * length gone) bs)) ≡ staying
     unfolding padded
-    old-rows n e = rows-behind gone staying bs _ 136 n (rw (s .rows-are) at (rows-laid cal bs size run)) e
+    old-rows n e = rows-behind gone staying bs _ rowsFrom n (rw (s .rows-are) at (rows-laid cal bs size run)) e
 
   -- ---- what a session answers and leaves
   abbrev answered : Listed
@@ -403,7 +403,7 @@ module _ (cal bs : List ℕ) (day close : ℕ) (size : length bs ≡ registerLen
   -- the months listed anew
   module _ (count₁ : ℕ) (out : List ℕ) where
     abbrev listedRows : List Row
-    listedRows = laddersFrom plans 0 6 (rowsIn (take (8 * (at16 bs 4 - droppedRows f g firstSpan)) (drop (136 + 8 * droppedRows f g firstSpan) bs)))
+    listedRows = laddersFrom plans 0 6 (rowsIn (take (8 * (at16 bs 4 - droppedRows f g firstSpan)) (drop (rowsFrom + 8 * droppedRows f g firstSpan) bs)))
 
     pub relisted : count₁ ≡ length listedRows → out ≡ quietBytes day listedRows
         → (at16 bs 4 ≤ count₁ + droppedRows f g firstSpan)
@@ -415,7 +415,7 @@ module _ (cal bs : List ℕ) (day close : ℕ) (size : length bs ≡ registerLen
         let n = row-count (k .0) (k .1) (k .2) in
         let a = added-is (k .0) (k .1) (k .2) in
         let d : droppedRows f g firstSpan ≡ length (k .1) = sym (k .2 .dropped) in
-        let olds : rowsIn (take (8 * (at16 bs 4 - droppedRows f g firstSpan)) (drop (136 + 8 * droppedRows f g firstSpan) bs)) ≡ rowsOf (k .0) G (h .entry) =
+        let olds : rowsIn (take (8 * (at16 bs 4 - droppedRows f g firstSpan)) (drop (rowsFrom + 8 * droppedRows f g firstSpan) bs)) ≡ rowsOf (k .0) G (h .entry) =
         rw d (old-rows (k .0) (k .1) (k .2) (at16 bs 4 - length (k .1)) (omega arith)) in
         let r : listedRows ≡ after .rows = ap (laddersFrom plans 0 6) olds ∙ rows-new (k .0) (k .1) (k .2) in
         let l : count₁ ≡ length (after .rows) = c ∙ ap length r in (
@@ -453,13 +453,13 @@ module _ (cal bs : List ℕ) (day close : ℕ) (size : length bs ≡ registerLen
         ∙ ap (λ (k : ℕ). rowsOf (liveMonths k) G (h .entry)) (sym q)
         ∙ sym (h .rows-are)
 
-    pub head-only : (out : List ℕ) → out ≡ headBytes day (at16 bs 4) ++ drop 136 bs
+    pub head-only : (out : List ℕ) → out ≡ headBytes day (at16 bs 4) ++ drop rowsFrom bs
         → (_≡_ {A = Listed} (record { number = 0; added = 0; removed = 0; rows = at16 bs 4 }) answered) × (out ≡ bytesOf (running after))
     unfolding sessionBody moved
     head-only out o =
         let n : at16 bs 4 ≡ length (b .rows) = sym (B.row-count cal bs size run) in (
           answers 0 0 (at16 bs 4) (sym (ap (count (on day)) unchanged ∙ none-today)) (sym (removed-is (liveMonths f) [] (stays-all q))) (n ∙ ap length (sym unchanged)),
-          o ∙ ap (λ (k : List ℕ). headBytes day (at16 bs 4) ++ k) (rows-laid cal bs size run) ∙ ap (λ (k : ℕ). headBytes day k ++ padded 11128 (rowsBytes (b .rows))) n ∙ ap (quietBytes day) (sym unchanged) ∙ quiet-is x (after .rows),
+          o ∙ ap (λ (k : List ℕ). headBytes day (at16 bs 4) ++ k) (rows-laid cal bs size run) ∙ ap (λ (k : ℕ). headBytes day k ++ padded rowsLength (rowsBytes (b .rows))) n ∙ ap (quietBytes day) (sym unchanged) ∙ quiet-is x (after .rows),
         )
 
   -- ---- the same of what the code takes up, each thing as it was given to it
@@ -487,7 +487,7 @@ module _ {cal bs : List ℕ} {day close : ℕ} {size : length bs ≡ registerLen
   bytes₀ = bytesOf (running (after cal bs day close size run ok next))
 
   abbrev listed₀ : ℕ → ℕ → List Row
-  listed₀ rows dropped = laddersFrom (planAt day 1 months held wide new) 0 6 (rowsIn (take (8 * (rows - dropped)) (drop (136 + 8 * dropped) bs)))
+  listed₀ rows dropped = laddersFrom (planAt day 1 months held wide new) 0 6 (rowsIn (take (8 * (rows - dropped)) (drop (rowsFrom + 8 * dropped) bs)))
 
   pub up-ready : Ready (getD months 0 0) (planAt day 1 months held wide new)
   unfolding liveMonths
@@ -512,9 +512,9 @@ module _ {cal bs : List ℕ} {day close : ℕ} {size : length bs ≡ registerLen
         (relisted cal bs day close size run ok next count₁ out)
 
     pub up-count : {count₁ : ℕ} → count₁ ≡ length (listed₀ rows dropped) → count₁ ≤ mostRows
-    up-count c = omega (arith, c, ladders-count (planAt day 1 months held wide new) 0 6 (rowsIn (take (8 * (rows - dropped)) (drop (136 + 8 * dropped) bs))), up-ready .room)
+    up-count c = omega (arith, c, ladders-count (planAt day 1 months held wide new) 0 6 (rowsIn (take (8 * (rows - dropped)) (drop (rowsFrom + 8 * dropped) bs))), up-ready .room)
 
-  pub up-head : {rows : ℕ} {out : List ℕ} → rows ≡ at16 bs 4 → before ≡ first → sameSpans held new ≡ true → out ≡ headBytes day rows ++ drop 136 bs
+  pub up-head : {rows : ℕ} {out : List ℕ} → rows ≡ at16 bs 4 → before ≡ first → sameSpans held new ≡ true → out ≡ headBytes day rows ++ drop rowsFrom bs
       → (_≡_ {A = Listed} (record { number = 0; added = 0; removed = 0; rows = rows }) answer₀) × (out ≡ bytes₀)
   up-head {rows} {out} n q =
       rw (n, u .new-are, u .wide-are, u .held-are, u .olds-are, u .months-are, u .spans-are, u .before-is, u .first-is)

@@ -1,9 +1,16 @@
 // Start and session on the register's bytes.
+use base::causes;
 use calls::Listed;
 use dates::DAYS;
+use layout::COUNT;
+use layout::DAY;
 use layout::PLACES;
 use layout::REGISTER_LENGTH;
+use layout::ROW_LENGTH;
 use layout::ROWS;
+use layout::SPARE;
+use layout::STATUS;
+use layout::WAITING;
 use rules::LAST_FIRST_MONTH;
 ghost use mathlib.Core.Path.{_≡_};
 ghost use mathlib.Core.Bool.{true};
@@ -39,9 +46,13 @@ fn listing_cause(first: u16, close: u32) -> u16
     ensures { λ r. ⌜ r ≡ listingCause first close ⌝ }
 {
     if LAST_FIRST_MONTH < first {
-        return 20;
+        return causes::TOO_LATE;
     }
-    if grid::close_taken(close) { 0 } else { 21 }
+    if grid::close_taken(close) {
+        0
+    } else {
+        causes::CLOSE
+    }
 }
 
 // A start's own causes, where the register is empty.
@@ -50,10 +61,10 @@ fn start_cause(calendar: &[u8], day: u32, close: u32) -> u16
     ensures { λ r. ⌜ r ≡ number (rules (now (calendar .entry))) (Call.start day close) empty ⌝ }
 {
     if DAYS as u32 <= day {
-        return 18;
+        return causes::START_DAY;
     }
     if !calendar::has_session(calendar, day as u16) {
-        return 18;
+        return causes::START_DAY;
     }
     listing_cause(calendar::first_live(calendar, day as u16), close)
 }
@@ -63,13 +74,13 @@ fn session_cause(calendar: &[u8], register: &[u8], day: u32, close: u32) -> u16
     requires { ⌜ Passes (now calendar) × (length (now register) ≡ registerLength) × (momentOf (now register) .day < dayCount) ⌝ }
     ensures { λ r. ⌜ r ≡ number (rules (now (calendar .entry))) (Call.session day close) (running (bodyOf (now (register .entry)))) ⌝ }
 {
-    let before = base::word(register, 2);
+    let before = base::word(register, DAY);
     let next = calendar::next_session(calendar, before);
     if day != next as u32 {
-        return 19;
+        return causes::SESSION_DAY;
     }
     if DAYS <= next {
-        return 20;
+        return causes::TOO_LATE;
     }
     listing_cause(calendar::first_live(calendar, next), close)
 }
@@ -80,14 +91,14 @@ fn write_head(register: &mut [u8], day: u16, count: u16)
     ensures { λ _. ⌜ now (register .exit) ≡ headBytes day count ++ drop rowsFrom (now (register .entry)) ⌝ }
 {
     ladders::clear(&mut register[PLACES..ROWS]);
-    register[0] = 1;
-    register[1] = 0;
-    register[2] = (day % 256) as u8;
-    register[3] = (day / 256) as u8;
-    register[4] = (count % 256) as u8;
-    register[5] = (count / 256) as u8;
-    register[6] = 0;
-    register[7] = 0;
+    register[STATUS] = 1;
+    register[WAITING] = 0;
+    register[DAY] = (day % 256) as u8;
+    register[DAY + 1] = (day / 256) as u8;
+    register[COUNT] = (count % 256) as u8;
+    register[COUNT + 1] = (count / 256) as u8;
+    register[SPARE] = 0;
+    register[SPARE + 1] = 0;
 }
 
 // Lists all six months from their spans and the old rows that stay. Returns the row count.
@@ -107,7 +118,7 @@ fn list(
     ensures { λ _. ⌜ now (register .exit) ≡ quietBytes day (laddersFrom (planAt day origin months held wide spans) 0 6 (rowsIn (now (old .entry)))) ⌝ }
 {
     let end = ladders::write_ladders(register, old, day, origin, months, held, wide, spans);
-    let count = ((end - ROWS) / 8) as u16;
+    let count = ((end - ROWS) / ROW_LENGTH) as u16;
     write_head(register, day, count);
     count
 }
@@ -134,11 +145,11 @@ fn list_start(calendar: &[u8], register: &mut [u8], day: u16, close: u32) -> Lis
 }
 
 // The register's bytes as a local array.
-fn copied(register: &[u8]) -> [u8; 11264]
+fn copied(register: &[u8]) -> [u8; REGISTER_LENGTH]
     requires { ⌜ length (now register) ≡ registerLength ⌝ }
     ensures { λ r. ⌜ r ≡ now (register .entry) ⌝ }
 {
-    let mut copy = [0u8; 11264];
+    let mut copy = [0u8; REGISTER_LENGTH];
     let mut i: usize = 0;
     while i < REGISTER_LENGTH {
         copy[i] = register[i];
@@ -176,8 +187,8 @@ fn relist(
     ensures { λ _. ⌜ now (register .exit) ≡ quietBytes day (laddersFrom (planAt day 1 months held wide spans) 0 6 (rowsIn (take (8 * (rows - dropped)) (drop (rowsFrom + 8 * dropped) (now (register .entry)))))) ⌝ }
 {
     let copy = copied(register);
-    let from = ROWS + 8 * (dropped as usize);
-    let end = ROWS + 8 * (rows as usize);
+    let from = ROWS + ROW_LENGTH * (dropped as usize);
+    let end = ROWS + ROW_LENGTH * (rows as usize);
     list(
         register,
         &copy[from..end],
@@ -203,13 +214,13 @@ fn list_session(
     ensures { λ r. ⌜ r ≡ answer (rules (now (calendar .entry))) (running (bodyOf (now (register .entry)))) (running (sessionOf (now (calendar .entry)) (now (register .entry)) day close)) ⌝ }
     ensures { λ _. ⌜ now (register .exit) ≡ bytesOf (running (sessionOf (now (calendar .entry)) (now (register .entry)) day close)) ⌝ }
 {
-    let rows = base::word(register, 4);
-    let before = calendar::first_live(calendar, base::word(register, 2));
+    let rows = base::word(register, COUNT);
+    let before = calendar::first_live(calendar, base::word(register, DAY));
     let first = calendar::first_live(calendar, day);
     let months = calendar::live_months(first);
     let held = ladders::spans::held_spans(calendar::live_months(before), spans, months);
     let wide = ladders::spans::close_spans(months, held, close);
-    let waiting = register[1] as usize;
+    let waiting = register[WAITING] as usize;
     let new = ladders::spans::new_spans(register, waiting, months, held, wide);
     if before == first {
         if ladders::spans::same_spans(held, new) {
@@ -238,7 +249,7 @@ pub fn start(calendar: &[u8], register: &mut [u8], day: u32, close: u32) -> List
     ensures { λ _. ⌜ now (register .exit) ≡ afterAt (rules (now (calendar .entry))) (Call.start day close) (now (register .entry)) ⌝ }
 {
     let opening = register::opening(calendar, register);
-    if opening.number == 17 {
+    if opening.number == causes::EMPTY {
         let number = start_cause(calendar, day, close);
         if number != 0 {
             return refused(number, 0);
@@ -251,9 +262,9 @@ pub fn start(calendar: &[u8], register: &mut [u8], day: u32, close: u32) -> List
     let spans = register::standing(calendar, register);
     let span = spans[0];
     if span[0] == 0 {
-        refused(15, 0)
+        refused(causes::REGISTER_FORM, 0)
     } else {
-        refused(16, 0)
+        refused(causes::RUNNING, 0)
     }
 }
 
@@ -269,7 +280,7 @@ pub fn session(calendar: &[u8], register: &mut [u8], day: u32, close: u32) -> Li
     let spans = register::standing(calendar, register);
     let span = spans[0];
     if span[0] == 0 {
-        return refused(15, 0);
+        return refused(causes::REGISTER_FORM, 0);
     }
     let number = session_cause(calendar, register, day, close);
     if number != 0 {

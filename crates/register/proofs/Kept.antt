@@ -11,7 +11,7 @@ use lib.Seq.{take-all, take-at, drop-at, drop-drop, drop-cons, getD-drop}
 use Rattle.layout.specs.Rows.{Row}
 use Rattle.layout.specs.Register.{Body}
 use Rattle.base.specs.Words.{two, at16}
-use Rattle.layout.specs.Bytes.{placesBytes, rowsBytes, padded, bodyBytes, readRows, momentOf, bodyOf, allZero}
+use Rattle.layout.specs.Bytes.{placesBytes, rowsBytes, padded, bodyBytes, readRows, momentOf, bodyOf, allZero, registerLength, rowsFrom, placesLength, rowsLength, mostRows}
 use Rattle.register.specs.Check.{Tells, Keeps}
 use Rattle.layout.specs.Spans.{placesAt}
 use Rattle.layout.proofs.ByteLaws.{places-length, rows-length, padded-length, zeros-zero, places-none, places-some, places-count, rows-count, zeros-are}
@@ -85,20 +85,20 @@ module _ (bs : List ℕ) (bytes : (i : ℕ) → getD bs i 0 < 256) where
       )
       (two-at at (at + 2) (omega arith) (omega arith))
 
-  module _ (l : length bs ≡ 11264) (k : Keeps bs) (ends : EndsZero (at16 bs 4) (drop 136 bs)) where
-    waiting-part : (m : ℕ) → m ≡ 128 - 4 * getD bs 1 0 → replicate m 0 ++ drop 136 bs ≡ drop (8 + 4 * getD bs 1 0) bs
+  module _ (l : length bs ≡ registerLength) (k : Keeps bs) (ends : EndsZero (at16 bs 4) (drop rowsFrom bs)) where
+    waiting-part : (m : ℕ) → m ≡ placesLength - 4 * getD bs 1 0 → replicate m 0 ++ drop rowsFrom bs ≡ drop (8 + 4 * getD bs 1 0) bs
     waiting-part m e =
         let h = k .waiting in
         let at : ℕ = 8 + 4 * getD bs 1 0 in
-        let n : length (take (136 - at) (drop at bs)) ≡ m = omega (arith, length-take (136 - at) (drop at bs), length-drop at bs) in
-        let d : at + (136 - at) ≡ 136 = omega arith in
-        let rest : drop 136 bs ≡ drop (136 - at) (drop at bs) = sym (drop-drop (136 - at) at bs ∙ ap (λ (i : ℕ). drop i bs) d) in
-        rw (← zeros-are (take (136 - at) (drop at bs)) m n (k .places), rest) (take-append-drop (136 - at) (drop at bs))
+        let n : length (take (rowsFrom - at) (drop at bs)) ≡ m = omega (arith, length-take (rowsFrom - at) (drop at bs), length-drop at bs) in
+        let d : at + (rowsFrom - at) ≡ rowsFrom = omega arith in
+        let rest : drop rowsFrom bs ≡ drop (rowsFrom - at) (drop at bs) = sym (drop-drop (rowsFrom - at) at bs ∙ ap (λ (i : ℕ). drop i bs) d) in
+        rw (← zeros-are (take (rowsFrom - at) (drop at bs)) m n (k .places), rest) (take-append-drop (rowsFrom - at) (drop at bs))
 
-    behind-part : (m : ℕ) → m ≡ 11128 - 8 * at16 bs 4 → replicate m 0 ≡ drop (136 + 8 * at16 bs 4) bs
+    behind-part : (m : ℕ) → m ≡ rowsLength - 8 * at16 bs 4 → replicate m 0 ≡ drop (rowsFrom + 8 * at16 bs 4) bs
     behind-part m e =
         let h = k .count in
-        sym (zeros-are (drop (136 + 8 * at16 bs 4) bs) m (omega (arith, length-drop (136 + 8 * at16 bs 4) bs)) (k .behind))
+        sym (zeros-are (drop (rowsFrom + 8 * at16 bs 4) bs) m (omega (arith, length-drop (rowsFrom + 8 * at16 bs 4) bs)) (k .behind))
 
     pub layout-is : bodyBytes (bodyOf bs) ≡ bs
     unfolding bodyBytes bodyOf momentOf padded
@@ -108,14 +108,14 @@ module _ (bs : List ℕ) (bytes : (i : ℕ) → getD bs i 0 < 256) where
         let h = k .waiting in
         let g = k .count in
         let p : length (placesBytes (placesAt bs 8 w)) ≡ 4 * w = places-length (placesAt bs 8 w) ∙ ap (λ (i : ℕ). 4 * i) (places-count w (drop 8 bs)) in
-        let q : length (rowsBytes (readRows n (drop 136 bs))) ≡ 8 * n = rows-length (readRows n (drop 136 bs)) ∙ ap (λ (i : ℕ). 8 * i) (rows-count n (drop 136 bs)) in
+        let q : length (rowsBytes (readRows n (drop rowsFrom bs))) ≡ 8 * n = rows-length (readRows n (drop rowsFrom bs)) ∙ ap (λ (i : ℕ). 8 * i) (rows-count n (drop rowsFrom bs)) in
         rw (
           places-count w (drop 8 bs),
-          rows-count n (drop 136 bs),
-          behind-part (11128 - length (rowsBytes (readRows n (drop 136 bs)))) (rw q),
-          rows-from n 136 (omega arith) ends,
+          rows-count n (drop rowsFrom bs),
+          behind-part (rowsLength - length (rowsBytes (readRows n (drop rowsFrom bs)))) (rw q),
+          rows-from n rowsFrom (omega arith) ends,
           append-assoc (placesBytes (placesAt bs 8 w)),
-          waiting-part (128 - length (placesBytes (placesAt bs 8 w))) (rw p),
+          waiting-part (placesLength - length (placesBytes (placesAt bs 8 w))) (rw p),
           places-from w 8 (omega arith),
           one-at 7 8 0 (omega arith) (omega arith) (k .seven),
           one-at 6 7 0 (omega arith) (omega arith) (k .six),
@@ -131,43 +131,43 @@ unfolding rowsBytes two
 ends-written [] rest = tt
 ends-written (r ∷ rs) rest = (refl, ends-written rs rest)
 
-body-sizes : (b : Body) → length (bodyBytes b) ≡ 11264 → (length (b .waiting) ≤ 32) × (length (b .rows) ≤ 1391)
+body-sizes : (b : Body) → length (bodyBytes b) ≡ registerLength → (length (b .waiting) ≤ 32) × (length (b .rows) ≤ mostRows)
 unfolding bodyBytes two padded
 body-sizes b l = let e = simp (length-append, length-replicate, places-length, rows-length) at l in (omega arith, omega arith)
 
-module _ (b : Body) (l : length (bodyBytes b) ≡ 11264) where
+module _ (b : Body) (l : length (bodyBytes b) ≡ registerLength) where
   count-is : at16 (bodyBytes b) 4 ≡ length (b .rows)
   unfolding at16 bodyBytes two
   count-is = omega arith
 
-  pub rows-part : drop 136 (bodyBytes b) ≡ rowsBytes (b .rows) ++ replicate (11128 - length (rowsBytes (b .rows))) 0
+  pub rows-part : drop rowsFrom (bodyBytes b) ≡ rowsBytes (b .rows) ++ replicate (rowsLength - length (rowsBytes (b .rows))) 0
   unfolding bodyBytes two padded
   rows-part =
       let h = body-sizes b l .0 in
       let p = places-length (b .waiting) in
-      drop-at (padded 128 (placesBytes (b .waiting))) _ 128 (padded-length 128 (placesBytes (b .waiting)) (omega arith))
+      drop-at (padded placesLength (placesBytes (b .waiting))) _ placesLength (padded-length placesLength (placesBytes (b .waiting)) (omega arith))
 
-  unused-zero : allZero (take (136 - (8 + 4 * length (b .waiting))) (drop (8 + 4 * length (b .waiting)) (bodyBytes b))) ≡ true
+  unused-zero : allZero (take (rowsFrom - (8 + 4 * length (b .waiting))) (drop (8 + 4 * length (b .waiting)) (bodyBytes b))) ≡ true
   unfolding bodyBytes two padded
   unused-zero =
       let P : List ℕ = placesBytes (b .waiting) in
       let p = places-length (b .waiting) in
-      let Z : List ℕ = replicate (128 - length P) 0 in
-      let n : length Z ≡ 136 - (8 + 4 * length (b .waiting)) = length-replicate {A = ℕ} (128 - length P) 0 ∙ omega arith in
-      rw (← drop-drop (4 * length (b .waiting)) 8 (bodyBytes b), append-assoc P, drop-at P _ (4 * length (b .waiting)) p, take-at Z _ (136 - (8 + 4 * length (b .waiting))) n)
-      (zeros-zero (128 - length P))
+      let Z : List ℕ = replicate (placesLength - length P) 0 in
+      let n : length Z ≡ rowsFrom - (8 + 4 * length (b .waiting)) = length-replicate {A = ℕ} (placesLength - length P) 0 ∙ omega arith in
+      rw (← drop-drop (4 * length (b .waiting)) 8 (bodyBytes b), append-assoc P, drop-at P _ (4 * length (b .waiting)) p, take-at Z _ (rowsFrom - (8 + 4 * length (b .waiting))) n)
+      (zeros-zero (placesLength - length P))
 
-  behind-zero : allZero (drop (136 + 8 * length (b .rows)) (bodyBytes b)) ≡ true
+  behind-zero : allZero (drop (rowsFrom + 8 * length (b .rows)) (bodyBytes b)) ≡ true
   behind-zero =
       let Q : List ℕ = rowsBytes (b .rows) in
-      rw (← drop-drop (8 * length (b .rows)) 136 (bodyBytes b), rows-part, drop-at Q (replicate (11128 - length Q) 0) (8 * length (b .rows)) (rows-length (b .rows)))
-      (zeros-zero (11128 - length Q))
+      rw (← drop-drop (8 * length (b .rows)) rowsFrom (bodyBytes b), rows-part, drop-at Q (replicate (rowsLength - length Q) 0) (8 * length (b .rows)) (rows-length (b .rows)))
+      (zeros-zero (rowsLength - length Q))
 
   header-is : (getD (bodyBytes b) 0 0 ≡ 1) × (getD (bodyBytes b) 1 0 ≡ length (b .waiting)) × (getD (bodyBytes b) 6 0 ≡ 0) × (getD (bodyBytes b) 7 0 ≡ 0)
   unfolding bodyBytes two
   header-is = (refl, refl, refl, refl)
 
-  body-keeps : Keeps (bodyBytes b) × EndsZero (at16 (bodyBytes b) 4) (drop 136 (bodyBytes b))
+  body-keeps : Keeps (bodyBytes b) × EndsZero (at16 (bodyBytes b) 4) (drop rowsFrom (bodyBytes b))
   body-keeps =
       let h = body-sizes b l in
       let e = header-is in
@@ -184,6 +184,6 @@ module _ (b : Body) (l : length (bodyBytes b) ≡ 11264) where
         rw (n, rows-part) (ends-written (b .rows) _),
       )
 
-pub kept : (bs : List ℕ) → length bs ≡ 11264 → bs ≡ bodyBytes (bodyOf bs) → Keeps bs × EndsZero (at16 bs 4) (drop 136 bs)
+pub kept : (bs : List ℕ) → length bs ≡ registerLength → bs ≡ bodyBytes (bodyOf bs) → Keeps bs × EndsZero (at16 bs 4) (drop rowsFrom bs)
 kept bs l e =
-    subst (λ (xs : List ℕ). Keeps xs × EndsZero (at16 xs 4) (drop 136 xs)) (sym e) (body-keeps (bodyOf bs) (sym (ap length e) ∙ l))
+    subst (λ (xs : List ℕ). Keeps xs × EndsZero (at16 xs 4) (drop rowsFrom xs)) (sym e) (body-keeps (bodyOf bs) (sym (ap length e) ∙ l))

@@ -25,7 +25,7 @@ use Rattle.rules.proofs.RulebookLaws.{first-is, first-day}
 use Rattle.layout.specs.Rows.{newEntry, Row, row, rowsOf, pricesOf, entryOk}
 use Rattle.layout.specs.Register.{mostWaiting, Body, spanLow, spanHigh, sameKeys, nonEmpty, entriesOk, listed, waitingOk}
 use Rattle.base.specs.Words.{at16}
-use Rattle.layout.specs.Bytes.{readRows, momentOf, bodyOf, rowsBytes}
+use Rattle.layout.specs.Bytes.{readRows, momentOf, bodyOf, rowsBytes, registerLength, rowsFrom, rowsLength}
 use Rattle.layout.specs.Spans.{noSpans, runsWell, spansOf, standingSpans}
 use Rattle.register.specs.Check.{Keeps}
 use Rattle.scan.specs.Scan.{rowAt, rowsAt, ladderSpans}
@@ -70,7 +70,7 @@ unfolding momentOf
 first-read cal bs d e = e ∙ ap (firstLive (expiryOf cal)) d ∙ first-is cal (momentOf bs)
 
 -- ---- what the scan finds of it
-module _ (cal bs : List ℕ) (l : length bs ≡ 11264) (r : Running cal bs) where
+module _ (cal bs : List ℕ) (l : length bs ≡ registerLength) (r : Running cal bs) where
   pub run-keeps : Keeps bs
   run-keeps = kept bs l (r .written) .0
 
@@ -89,16 +89,16 @@ module _ (cal bs : List ℕ) (l : length bs ≡ 11264) (r : Running cal bs) wher
   unfolding bodyOf
   run-held = held cal (bodyOf bs) (r .well)
 
-  pub run-spans : let f = firstAt cal (momentOf bs) in ladderSpans (at16 bs 2) f [] (liveMonths f) (rowsAt bs 136 (at16 bs 4)) ≡ spansOf (bodyOf bs) (liveMonths f)
+  pub run-spans : let f = firstAt cal (momentOf bs) in ladderSpans (at16 bs 2) f [] (liveMonths f) (rowsAt bs rowsFrom (at16 bs 4)) ≡ spansOf (bodyOf bs) (liveMonths f)
   unfolding bodyOf momentOf
   run-spans =
       let f : ℕ = firstAt cal (momentOf bs) in
-      ap (ladderSpans (at16 bs 2) f [] (liveMonths f)) (rows-same bs (at16 bs 4) 136 (kept bs l (r .written) .1))
+      ap (ladderSpans (at16 bs 2) f [] (liveMonths f)) (rows-same bs (at16 bs 4) rowsFrom (kept bs l (r .written) .1))
       ∙ spans-held (at16 bs 2) f (bodyOf bs) run-held (r .well .entries)
 
   -- behind the places stand the bytes of its rows, then zeros
-  pub rows-behind : drop 136 bs ≡ rowsBytes (bodyOf bs .rows) ++ replicate (11128 - length (rowsBytes (bodyOf bs .rows))) 0
-  rows-behind = ap (drop 136) (r .written) ∙ rows-part (bodyOf bs) (sym (ap length (r .written)) ∙ l)
+  pub rows-behind : drop rowsFrom bs ≡ rowsBytes (bodyOf bs .rows) ++ replicate (rowsLength - length (rowsBytes (bodyOf bs .rows))) 0
+  rows-behind = ap (drop rowsFrom) (r .written) ∙ rows-part (bodyOf bs) (sym (ap length (r .written)) ∙ l)
 
 -- the first month's lowest price is not 0
 pub first-low : (f : ℕ) (b : Body) → Held f (b .rows) → getD (getD (spansOf b (liveMonths f)) 0 []) 0 0 ≡ 0 → ⊥
@@ -112,22 +112,22 @@ pub record Scanned (cal bs : List ℕ) (spans : List (List ℕ)) : Type 0 where
   pub keeps : Keeps bs
   pub day-session : session cal (at16 bs 2) ≡ true
   pub first-le : firstAt cal (momentOf bs) ≤ lastFirstMonth
-  pub spans-is : spans ≡ ladderSpans (at16 bs 2) (firstAt cal (momentOf bs)) [] (liveMonths (firstAt cal (momentOf bs))) (rowsAt bs 136 (at16 bs 4))
+  pub spans-is : spans ≡ ladderSpans (at16 bs 2) (firstAt cal (momentOf bs)) [] (liveMonths (firstAt cal (momentOf bs))) (rowsAt bs rowsFrom (at16 bs 4))
   pub some : getD (getD spans 0 []) 0 0 ≡ 0 → ⊥
 
-module _ (cal bs : List ℕ) (l : length bs ≡ 11264) (bytes : (i : ℕ) → getD bs i 0 < 256) (spans : List (List ℕ)) (r : Scanned cal bs spans) where
-  scan-found : Found (at16 bs 2) (firstAt cal (momentOf bs)) (liveMonths (firstAt cal (momentOf bs))) (rowsAt bs 136 (at16 bs 4))
+module _ (cal bs : List ℕ) (l : length bs ≡ registerLength) (bytes : (i : ℕ) → getD bs i 0 < 256) (spans : List (List ℕ)) (r : Scanned cal bs spans) where
+  scan-found : Found (at16 bs 2) (firstAt cal (momentOf bs)) (liveMonths (firstAt cal (momentOf bs))) (rowsAt bs rowsFrom (at16 bs 4))
   scan-found =
       let f : ℕ = firstAt cal (momentOf bs) in
       ⊎-elim (λ z. absurd (r .some (ap (λ (x : List (List ℕ)). getD (getD x 0 []) 0 0) (r .spans-is ∙ z)))) (λ w. w)
-      (find-ladders (at16 bs 2) f [] (liveMonths f) (rowsAt bs 136 (at16 bs 4)) (live-apart f))
+      (find-ladders (at16 bs 2) f [] (liveMonths f) (rowsAt bs rowsFrom (at16 bs 4)) (live-apart f))
 
-  ends : EndsZero (at16 bs 4) (drop 136 bs)
-  ends = ends-zero bs (at16 bs 2) (at16 bs 4) 136 (scan-found .entries)
+  ends : EndsZero (at16 bs 4) (drop rowsFrom bs)
+  ends = ends-zero bs (at16 bs 2) (at16 bs 4) rowsFrom (scan-found .entries)
 
-  rows-are : rowsAt bs 136 (at16 bs 4) ≡ bodyOf bs .rows
+  rows-are : rowsAt bs rowsFrom (at16 bs 4) ≡ bodyOf bs .rows
   unfolding bodyOf
-  rows-are = rows-same bs (at16 bs 4) 136 ends
+  rows-are = rows-same bs (at16 bs 4) rowsFrom ends
 
   found : Found (at16 bs 2) (firstAt cal (momentOf bs)) (liveMonths (firstAt cal (momentOf bs))) (bodyOf bs .rows)
   found = rw rows-are at scan-found
@@ -183,7 +183,7 @@ module _ (cal bs : List ℕ) where
   all-stand r = rw (runs-i cal bs r)
 
   -- so the first month's lowest price tells whether it stands
-  pub standing-none : length bs ≡ 11264 → getD (getD (standingSpans cal bs) 0 []) 0 0 ≡ 0 → Running cal bs → ⊥
+  pub standing-none : length bs ≡ registerLength → getD (getD (standingSpans cal bs) 0 []) 0 0 ≡ 0 → Running cal bs → ⊥
   standing-none l z r = first-low (firstAt cal (momentOf bs)) (bodyOf bs) (run-held cal bs l r) (rw (← all-stand r) at z)
 
   pub standing-some : (getD (getD (standingSpans cal bs) 0 []) 0 0 ≡ 0 → ⊥) → Running cal bs

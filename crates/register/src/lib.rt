@@ -1,13 +1,22 @@
 // The check of a register, and how every call opens.
+use base::causes;
 use base::word;
 use calendar::Checked;
 use dates::DAYS;
 use dates::MONTHS;
+use layout::COUNT;
+use layout::DAY;
 use layout::MOST_ROWS;
 use layout::MOST_WAITING;
+use layout::PLACE_LENGTH;
 use layout::PLACES;
+use layout::PRICE;
 use layout::REGISTER_LENGTH;
+use layout::ROW_LENGTH;
 use layout::ROWS;
+use layout::SPARE;
+use layout::STATUS;
+use layout::WAITING;
 use rules::LAST_FIRST_MONTH;
 ghost use mathlib.Core.Path.{_≡_};
 ghost use mathlib.Core.List.{[], _++_};
@@ -29,28 +38,28 @@ fn keeps_layout(register: &[u8]) -> bool
     requires { ⌜ length (now register) ≡ registerLength ⌝ }
     ensures { λ r. ⌜ Tells r (Keeps (now (register .entry))) ⌝ }
 {
-    if register[0] != 1 {
+    if register[STATUS] != 1 {
         return false;
     }
-    let waiting = register[1] as usize;
+    let waiting = register[WAITING] as usize;
     if MOST_WAITING < waiting {
         return false;
     }
-    if register[6] != 0 {
+    if register[SPARE] != 0 {
         return false;
     }
-    if register[7] != 0 {
+    if register[SPARE + 1] != 0 {
         return false;
     }
-    let rows = word(register, 4) as usize;
+    let rows = word(register, COUNT) as usize;
     if MOST_ROWS < rows {
         return false;
     }
-    let unused = PLACES + 4 * waiting;
+    let unused = PLACES + PLACE_LENGTH * waiting;
     if !layout::is_zero(&register[unused..ROWS]) {
         return false;
     }
-    let behind = ROWS + 8 * rows;
+    let behind = ROWS + ROW_LENGTH * rows;
     layout::is_zero(&register[behind..])
 }
 
@@ -75,7 +84,7 @@ pub fn next_first(calendar: &[u8], register: &[u8]) -> u16
     requires { ⌜ Passes (now calendar) × (length (now register) ≡ registerLength) × (momentOf (now register) .day < dayCount) ⌝ }
     ensures { λ r. ⌜ r ≡ firstAt (now (calendar .entry)) (next (rules (now (calendar .entry))) (momentOf (now (register .entry)))) ⌝ }
 {
-    let next = calendar::next_session(calendar, word(register, 2));
+    let next = calendar::next_session(calendar, word(register, DAY));
     if next < DAYS {
         calendar::first_live(calendar, next)
     } else {
@@ -96,21 +105,21 @@ pub fn refusal(
     ensures { λ r. ⌜ r ≡ causesAt first next (spanIn (liveMonths first) spans month) waits month price ⌝ }
 {
     if LAST_FIRST_MONTH < next {
-        return 20;
+        return causes::TOO_LATE;
     }
     let i = live_place(first, month);
     if i == 6 {
-        return 22;
+        return causes::ANNOUNCE_MONTH;
     }
     let live = month as u16;
     if live < next {
-        return 22;
+        return causes::ANNOUNCE_MONTH;
     }
     if !grid::on_grid(calendar::tier_of(next, live), price) {
-        return 23;
+        return causes::ANNOUNCE_PRICE;
     }
     if waits {
-        return 24;
+        return causes::ANNOUNCE_KNOWN;
     }
     let strike = price as u16;
     let span = spans[i];
@@ -120,7 +129,7 @@ pub fn refusal(
     if span[1] < strike {
         return 0;
     }
-    24
+    causes::ANNOUNCE_KNOWN
 }
 
 // Whether a price waits for a month in some of the places.
@@ -130,9 +139,9 @@ pub fn waits(register: &[u8], at: usize, places: usize, month: u32, price: u32) 
 {
     let mut i: usize = 0;
     while i < places {
-        let place = at + 4 * i;
+        let place = at + PLACE_LENGTH * i;
         if month == word(register, place) as u32 {
-            if price == word(register, place + 2) as u32 {
+            if price == word(register, place + PRICE) as u32 {
                 return true;
             }
         }
@@ -149,7 +158,13 @@ fn waits_beside(register: &[u8], places: usize, i: usize, month: u32, price: u32
     if waits(register, PLACES, i, month, price) {
         return true;
     }
-    waits(register, PLACES + 4 * i + 4, places - i - 1, month, price)
+    waits(
+        register,
+        PLACES + PLACE_LENGTH * i + PLACE_LENGTH,
+        places - i - 1,
+        month,
+        price,
+    )
 }
 
 // Whether no waiting announcement would be refused beside the others, where the six spans are those of the register's rows.
@@ -159,12 +174,12 @@ fn waiting_stands(calendar: &[u8], register: &[u8], first: u16, spans: [[u16; 2]
     ensures { λ r. ⌜ r ≡ waitingOk (rules (now (calendar .entry))) (bodyOf (now (register .entry))) [] (bodyOf (now (register .entry)) .waiting) ⌝ }
 {
     let next = next_first(calendar, register);
-    let places = register[1] as usize;
+    let places = register[WAITING] as usize;
     let mut i: usize = 0;
     while i < places {
-        let at = PLACES + 4 * i;
+        let at = PLACES + PLACE_LENGTH * i;
         let month = word(register, at) as u32;
-        let price = word(register, at + 2) as u32;
+        let price = word(register, at + PRICE) as u32;
         let beside = waits_beside(register, places, i, month, price);
         if refusal(first, next, spans, beside, month, price) != 0 {
             return false;
@@ -183,7 +198,7 @@ pub fn standing(calendar: &[u8], register: &[u8]) -> [[u16; 2]; 6]
     if !keeps_layout(register) {
         return none;
     }
-    let day = word(register, 2);
+    let day = word(register, DAY);
     if DAYS <= day {
         return none;
     }
@@ -194,13 +209,13 @@ pub fn standing(calendar: &[u8], register: &[u8]) -> [[u16; 2]; 6]
     if LAST_FIRST_MONTH < first {
         return none;
     }
-    let rows = word(register, 4) as usize;
+    let rows = word(register, COUNT) as usize;
     let spans = scan::ladders(register, rows, day, first);
     let span = spans[0];
     if span[0] == 0 {
         return none;
     }
-    if register[1] == 0 {
+    if register[WAITING] == 0 {
         return spans;
     }
     if !waiting_stands(calendar, register, first, spans) {
@@ -219,11 +234,11 @@ pub fn opening(calendar: &[u8], register: &[u8]) -> Checked
     }
     if register.len() != REGISTER_LENGTH {
         return Checked {
-            number: 14,
+            number: causes::REGISTER_LENGTH,
             month: 0,
         };
     }
-    if register[0] != 0 {
+    if register[STATUS] != 0 {
         return Checked {
             number: 0,
             month: 0,
@@ -231,12 +246,12 @@ pub fn opening(calendar: &[u8], register: &[u8]) -> Checked
     }
     if layout::is_zero(register) {
         Checked {
-            number: 17,
+            number: causes::EMPTY,
             month: 0,
         }
     } else {
         Checked {
-            number: 15,
+            number: causes::REGISTER_FORM,
             month: 0,
         }
     }

@@ -25,7 +25,7 @@ use Rattle.rules.specs.Rulebook.{rules, firstAt}
 use Rattle.rules.proofs.RulebookLaws.{live-rises}
 use Rattle.layout.specs.Rows.{Entry, Row, row, ladder, rowsOf}
 use Rattle.layout.specs.Register.{Body, running, spanLow, spanHigh}
-use Rattle.layout.specs.Bytes.{registerLength, rowsBytes, momentOf, bodyOf, allZero, regOf}
+use Rattle.layout.specs.Bytes.{registerLength, rowsBytes, momentOf, bodyOf, allZero, regOf, rowsFrom, rowsLength}
 use Rattle.base.specs.Words.{two}
 use Rattle.calls.specs.RowsCall.{monthRows, earlierRows, rowsCause, rowsNumber, rowsPart, rowsPlace}
 use Rattle.layout.specs.Spans.{spansOf}
@@ -194,7 +194,7 @@ module _ (cal bs : List ℕ) (m : ℕ) where
   own-is = alone (cause (not (elem m (liveMonths (firstAt cal (momentOf bs))))) 26)
 
   pub rows-placed : Reads cal bs (running (bodyOf bs)) → Running cal bs →
-      let f = firstAt cal (momentOf bs) in monthPlace f m 136 (liveMonths f) (spansOf (bodyOf bs) (liveMonths f)) ≡ rowsPlace (rules cal) bs m
+      let f = firstAt cal (momentOf bs) in monthPlace f m rowsFrom (liveMonths f) (spansOf (bodyOf bs) (liveMonths f)) ≡ rowsPlace (rules cal) bs m
   unfolding rowsPlace rowsNumber cause
   rows-placed x r =
       let f : ℕ = firstAt cal (momentOf bs) in
@@ -204,8 +204,8 @@ module _ (cal bs : List ℕ) (m : ℕ) where
       byBool (elem m (liveMonths f))
       (λ e.
       let z : rowsNumber (rules cal) bs m ≡ 0 = reads-own cal bs (running b) x own ∙ own-is ∙ rw e in
-      placed f m b (h .low) (h .high) (h .entry) (liveMonths f) 136 (spanned f b h) (live-rises f) e ∙ rw (z, ← h .rows-are))
-      (λ e. not-placed f m b (liveMonths f) 136 e ∙ rows-refused (refused-own cal bs (running b) x own 26 (sym (own-is ∙ rw e)) (λ z. omega arith) (λ z. omega arith)))
+      placed f m b (h .low) (h .high) (h .entry) (liveMonths f) rowsFrom (spanned f b h) (live-rises f) e ∙ rw (z, ← h .rows-are))
+      (λ e. not-placed f m b (liveMonths f) rowsFrom e ∙ rows-refused (refused-own cal bs (running b) x own 26 (sym (own-is ∙ rw e)) (λ z. omega arith) (λ z. omega arith)))
 
   -- ---- what lies at that place
 
@@ -223,8 +223,8 @@ module _ (cal bs : List ℕ) (m : ℕ) where
   -- behind the rows of the months before stand the month's rows, and they end inside the register
   record There : Type 0 where
     rest : List ℕ
-    bytes-are : let rs = bodyOf bs .rows in drop (136 + 8 * length (earlierRows m rs)) bs ≡ rowsBytes (monthRows m rs) ++ rest
-    inside : let rs = bodyOf bs .rows in 136 + 8 * length (earlierRows m rs) + 8 * length (monthRows m rs) ≤ length bs
+    bytes-are : let rs = bodyOf bs .rows in drop (rowsFrom + 8 * length (earlierRows m rs)) bs ≡ rowsBytes (monthRows m rs) ++ rest
+    inside : let rs = bodyOf bs .rows in rowsFrom + 8 * length (earlierRows m rs) + 8 * length (monthRows m rs) ≤ length bs
 
   there : rowsNumber (rules cal) bs m ≡ 0 → There
   there z =
@@ -232,15 +232,15 @@ module _ (cal bs : List ℕ) (m : ℕ) where
       let f : ℕ = firstAt cal (momentOf bs) in
       let h = run-held cal bs (k .0) (k .1) in
       let rs : List Row = bodyOf bs .rows in
-      let zeros : List ℕ = replicate (11128 - length (rowsBytes rs)) 0 in
+      let zeros : List ℕ = replicate (rowsLength - length (rowsBytes rs)) 0 in
       let t : (more : List Row) × (rs ≡ earlierRows m rs ++ (monthRows m rs ++ more)) = rw (h .rows-are) (stretch m (ladderOf f (h .low) (h .high)) (h .entry) (liveMonths f) (live-rises f) (k .2)) in
       let E : List Row = earlierRows m rs in
       let M : List Row = monthRows m rs in
-      let d : drop 136 bs ≡ rowsBytes rs ++ zeros = rows-behind cal bs (k .0) (k .1) in
+      let d : drop rowsFrom bs ≡ rowsBytes rs ++ zeros = rows-behind cal bs (k .0) (k .1) in
       let e : rowsBytes rs ≡ rowsBytes E ++ (rowsBytes M ++ rowsBytes (t .0)) = ap rowsBytes (t .1) ∙ bytes-append E (M ++ t .0) ∙ ap (λ (xs : List ℕ). rowsBytes E ++ xs) (bytes-append M (t .0)) in
       record {
         rest = rowsBytes (t .0) ++ zeros;
-        bytes-are = sym (drop-drop (8 * length E) 136 bs) ∙ rw (d, e, append-assoc (rowsBytes E), append-assoc (rowsBytes M)) (drop-at (rowsBytes E) _ _ (rows-length E));
+        bytes-are = sym (drop-drop (8 * length E) rowsFrom bs) ∙ rw (d, e, append-assoc (rowsBytes E), append-assoc (rowsBytes M)) (drop-at (rowsBytes E) _ _ (rows-length E));
         inside = omega (arith, simp (length-drop, length-append, length-replicate) at (ap length d), rows-length rs, simp length-append at (ap length (t .1)));
       }
 

@@ -1,7 +1,10 @@
 // The rows call: a pair over the same inputs, and both in one.
 use base::Tier;
+use base::causes;
 use base::word;
 use calls::Place;
+use layout::DAY;
+use layout::ROW_LENGTH;
 use layout::ROWS;
 ghost use mathlib.Core.Path.{_≡_};
 ghost use mathlib.Core.List.{[]};
@@ -46,7 +49,7 @@ fn month_place(first: u16, spans: [[u16; 2]; 6], month: u32) -> Place
     while i < 6 {
         let live = months[i];
         let span = spans[i];
-        let size = 8 * ladder_size(calendar::tier_of(first, live), span[0], span[1]);
+        let size = ROW_LENGTH * ladder_size(calendar::tier_of(first, live), span[0], span[1]);
         if month == live as u32 {
             return Place {
                 number: 0,
@@ -57,7 +60,7 @@ fn month_place(first: u16, spans: [[u16; 2]; 6], month: u32) -> Place
         at += size;
         i += 1;
     }
-    refused(26)
+    refused(causes::ROWS_MONTH)
 }
 
 // The rows call in one. An entry point: it takes any bytes.
@@ -71,9 +74,9 @@ pub fn rows_place(calendar: &[u8], register: &[u8], month: u32) -> Place
     let spans = register::standing(calendar, register);
     let span = spans[0];
     if span[0] == 0 {
-        return refused(15);
+        return refused(causes::REGISTER_FORM);
     }
-    let first = calendar::first_live(calendar, word(register, 2));
+    let first = calendar::first_live(calendar, word(register, DAY));
     month_place(first, spans, month)
 }
 

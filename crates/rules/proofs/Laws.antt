@@ -9,7 +9,7 @@ use lib.ListN.{length}
 use Rattle.base.specs.Lists.{elem}
 use Rattle.grid.specs.Grid.{closeTaken}
 use Rattle.base.proofs.Rising.{rises, risesAll}
-use Rattle.rules.specs.Rules.{Moment, Rules, next}
+use Rattle.rules.specs.Rules.{Moment, Rules, next, lastFirstMonth}
 
 -- how many prices the grids of a list of months have
 unfoldable pub total : (ℕ → List ℕ) → List ℕ → ℕ
@@ -22,9 +22,9 @@ pub record Laws (R : Rules) : Type 0 where
   pub begin-day : (d : ℕ) → R .begin d .day ≡ d
   pub move-day : (x : Moment) (d : ℕ) → R .move x d .day ≡ d
   pub later : (x : Moment) → x .day < R .nextDay x
-  pub next-session : (x : Moment) → R .good x ≡ true → leb (R .firstLive (next R x)) 1190 ≡ true → R .isSession (R .nextDay x) ≡ true
-  pub day-in : (x : Moment) → R .good x ≡ true → leb (R .firstLive x) 1190 ≡ true → x .day ≤ 36524
-  pub live-in : (x : Moment) (m : ℕ) → leb (R .firstLive x) 1190 ≡ true → elem m (R .live x) ≡ true → m ≤ 1199
+  pub next-session : (x : Moment) → R .good x ≡ true → leb (R .firstLive (next R x)) lastFirstMonth ≡ true → R .isSession (R .nextDay x) ≡ true
+  pub day-in : (x : Moment) → R .good x ≡ true → leb (R .firstLive x) lastFirstMonth ≡ true → x .day ≤ 36524
+  pub live-in : (x : Moment) (m : ℕ) → leb (R .firstLive x) lastFirstMonth ≡ true → elem m (R .live x) ≡ true → m ≤ 1199
   pub price-in : (x : Moment) (m p : ℕ) → elem p (R .grid x m) ≡ true → p ≤ 9999
   pub capacity : (x : Moment) → total (R .grid x) (R .live x) ≤ 1391
   -- from a session to the next a live month's grid only becomes finer

@@ -1,6 +1,10 @@
 // The scan of a register's rows: ladders one behind the other.
 use base::Tier;
 use base::word;
+use layout::FIRST_DAY;
+use layout::ORIGIN;
+use layout::PRICE;
+use layout::ROW_LENGTH;
 use layout::ROWS;
 ghost use mathlib.Core.Path.{_≡_};
 ghost use mathlib.Core.List.{[]};
@@ -17,14 +21,14 @@ fn row_fits(register: &[u8], at: usize, day: u16, month: u16, price: u64) -> boo
     requires { ⌜ (at + 7 < length (now register)) × (price < 10000) ⌝ }
     ensures { λ r. ⌜ r ≡ fitting day month price (rowAt (now (register .entry)) at) ⌝ }
 {
-    let key = (word(register, at) as u64) + 65536 * (word(register, at + 2) as u64);
+    let key = (word(register, at) as u64) + 65536 * (word(register, at + PRICE) as u64);
     if key != (month as u64) + 65536 * price {
         return false;
     }
-    if day < word(register, at + 4) {
+    if day < word(register, at + FIRST_DAY) {
         return false;
     }
-    let origin = word(register, at + 6);
+    let origin = word(register, at + ORIGIN);
     if origin < 1 {
         return false;
     }
@@ -49,7 +53,7 @@ fn climb(
     let mut band = grid::band_of(price, by);
     let mut n: usize = 0;
     while n < rows {
-        if !row_fits(register, at + 8 * n, day, month, price) {
+        if !row_fits(register, at + ROW_LENGTH * n, day, month, price) {
             return n;
         }
         n += 1;
@@ -72,7 +76,7 @@ fn ladder(register: &[u8], at: usize, rows: usize, day: u16, month: u16, tier: T
     if rows == 0 {
         return 0;
     }
-    let low = word(register, at + 2);
+    let low = word(register, at + PRICE);
     if !grid::on_grid(tier, low as u32) {
         return 0;
     }
@@ -90,7 +94,7 @@ pub fn ladders(register: &[u8], rows: usize, day: u16, first: u16) -> [[u16; 2];
     let mut i: usize = 0;
     while i < 6 {
         let month = months[i];
-        let at = ROWS + 8 * past;
+        let at = ROWS + ROW_LENGTH * past;
         let n = ladder(
             register,
             at,
@@ -102,8 +106,8 @@ pub fn ladders(register: &[u8], rows: usize, day: u16, first: u16) -> [[u16; 2];
         if n == 0 {
             return [[0u16; 2]; 6];
         }
-        let low = word(register, at + 2);
-        let high = word(register, at + 8 * (n - 1) + 2);
+        let low = word(register, at + PRICE);
+        let high = word(register, at + ROW_LENGTH * (n - 1) + PRICE);
         spans[i] = [low, high];
         past += n;
         i += 1;

@@ -1,8 +1,8 @@
 // Causes 22 to 26: the month and the price of an announcement, and the month of the rows call.
 use crate::forms::tell;
 use crate::parts;
-use layout::MOST_WAITING;
 use base::causes;
+use layout::MOST_WAITING;
 use phrases::fill;
 use text::put;
 

@@ -9,18 +9,19 @@ use lib.ListN.{length, take, getD, set, length-set}
 use lib.Seq.{take-suc, take-suc-set, take-all}
 use Rattle.listing.proofs.copied.Statement.{statement}
 use Rattle.listing.proofs.copied.Tie as tie
+use Rattle.layout.specs.Bytes.{registerLength}
 
 abbrev Inv-loop : tie.InvT-loop
-Inv-loop register copy₀ i₀ copy i = (i ≤ 11264) × (length copy ≡ 11264) × (take i copy ≡ take i register)
+Inv-loop register copy₀ i₀ copy i = (i ≤ registerLength) × (length copy ≡ registerLength) × (take i copy ≡ take i register)
 
 abbrev μ-loop : tie.MeasureT-loop
-μ-loop register copy₀ i₀ copy i = 11264 - i
+μ-loop register copy₀ i₀ copy i = registerLength - i
 
 -- a store at i extends the agreement of two lists by one
 one-more : (i : ℕ) (l m : List ℕ) → i < length l → i < length m → take i l ≡ take i m → take (i + 1) (set l i (getD m i 0)) ≡ take (i + 1) m
 one-more i l m h k e = rw (add-one, take-suc-set l i (getD m i 0), take-suc m i 0, e)
 
-whole : (i : ℕ) (l m : List ℕ) → 11264 ≤ i → length l ≡ 11264 → length m ≡ 11264 → take i l ≡ take i m → l ≡ m
+whole : (i : ℕ) (l m : List ℕ) → registerLength ≤ i → length l ≡ registerLength → length m ≡ registerLength → take i l ≡ take i m → l ≡ m
 whole i l m h a b e = sym (take-all i l (omega arith)) ∙ e ∙ take-all i m (omega arith)
 
 loop-holds : tie.Need-loop-holds Inv-loop μ-loop

@@ -6,6 +6,7 @@ use native.Mathlib.Omega.{arith}
 use borrow.Author.Needs.{needs}
 use Rattle.listing.proofs.relist.Statement.{statement}
 use Rattle.listing.proofs.relist.Tie as tie
+use Rattle.layout.specs.Bytes.{rowsFrom}
 
 copied-requires : tie.Need-copied-requires
 copied-requires c κs = search needs
@@ -43,7 +44,7 @@ returns c =
     let l = c .before .before in
     let k = l .before .before .before .before in
     let a = k .before .before .before .args in
-    let e : 136 + 8 * a .rows - (136 + 8 * a .dropped) ≡ 8 * (a .rows - a .dropped) = omega arith in
+    let e : rowsFrom + 8 * a .rows - (rowsFrom + 8 * a .dropped) ≡ 8 * (a .rows - a .dropped) = omega arith in
     rw (e, k .copied .ensures) at (l .list .ensures)
 
 pub relist-spec : {M : Type 1} → statement M

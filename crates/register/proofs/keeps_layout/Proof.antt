@@ -8,7 +8,7 @@ use borrow.Author.Needs.{needs}
 use borrow.Author.Tests.{not-true, not-false}
 use Rattle.base.proofs.Tests.{clash}
 use Rattle.base.specs.Words.{at16}
-use Rattle.layout.specs.Bytes.{allZero}
+use Rattle.layout.specs.Bytes.{allZero, rowsFrom}
 use Rattle.register.proofs.Kept.{tells-not, rest-all}
 use Rattle.register.proofs.keeps_layout.Statement.{statement}
 use Rattle.register.proofs.keeps_layout.Tie as tie
@@ -33,6 +33,9 @@ shared-slice-read-if3 c = search needs
 
 returns-3 : tie.Need-returns-3
 returns-3 c = tells-not (λ k. c .if3 .taken (k .six))
+
+add-if4 : tie.Need-add-if4
+add-if4 c = search needs
 
 shared-slice-read-if4 : tie.Need-shared-slice-read-if4
 shared-slice-read-if4 c = search needs
@@ -92,7 +95,7 @@ returns-7 : tie.Need-returns-7
 returns-7 c =
     let n = c .before .before .before .before .before .before .word .ensures in
     let bs = c .before .before .before .before .before .before .before .before .before .before .before .before .before .before .before .before .args .register .now in
-    let z : c .is-zero2 .result ≡ allZero (drop (136 + 8 * at16 bs 4) bs) = c .is-zero2 .ensures ∙ rw (rest-all, n) in
+    let z : c .is-zero2 .result ≡ allZero (drop (rowsFrom + 8 * at16 bs 4) bs) = c .is-zero2 .ensures ∙ rw (rest-all, n) in
     record {
       if-true = λ e. record {
         status = c .before .before .before .before .before .before .before .before .before .before .before .before .before .if1 .left;
@@ -117,6 +120,7 @@ keeps-layout-spec =
     returns-2
     shared-slice-read-if3
     returns-3
+    add-if4
     shared-slice-read-if4
     returns-4
     word-requires

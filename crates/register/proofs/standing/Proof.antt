@@ -13,7 +13,7 @@ use Rattle.calendar.specs.Live.{liveMonths}
 use Rattle.rules.specs.Rulebook.{firstAt, rules}
 use Rattle.layout.specs.Register.{waitingOk}
 use Rattle.base.specs.Words.{at16}
-use Rattle.layout.specs.Bytes.{momentOf, bodyOf}
+use Rattle.layout.specs.Bytes.{momentOf, bodyOf, rowsFrom}
 use Rattle.layout.specs.Spans.{standingSpans}
 use Rattle.register.specs.Check.{Keeps}
 use Rattle.scan.specs.Scan.{rowsAt, ladderSpans}
@@ -35,7 +35,7 @@ spans-is : (c : tie.After-ladders) →
     let a = c .before .before .before .before .before .before .before .before .before .before .before .before .args in
     let bs = a .register .now in
     let f = firstAt (a .calendar .now) (momentOf bs) in
-    c .ladders .result ≡ ladderSpans (at16 bs 2) f [] (liveMonths f) (rowsAt bs 136 (at16 bs 4))
+    c .ladders .result ≡ ladderSpans (at16 bs 2) f [] (liveMonths f) (rowsAt bs rowsFrom (at16 bs 4))
 spans-is c = rw (first-is (c .before .before .before), c .before .before .before .before .before .before .before .word .ensures, c .before .word2 .ensures) at (c .ladders .ensures)
 
 scan : (c : tie.Else5) →

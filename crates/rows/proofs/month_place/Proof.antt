@@ -11,10 +11,11 @@ use Rattle.scan.proofs.Steps.{six-months}
 use Rattle.rows.proofs.MonthRows.{sizeAt, rows-here, rows-next}
 use Rattle.rows.proofs.month_place.Statement.{statement}
 use Rattle.rows.proofs.month_place.Tie as tie
+use Rattle.layout.specs.Bytes.{rowsFrom}
 
 abbrev Inv-loop : tie.InvT-loop
 Inv-loop first month spans months at₀ i₀ at i =
-    (i ≤ 6) × (at ≤ 136 + 4064 * i) × (monthPlace first month 136 months spans ≡ monthPlace first month at (drop i months) (drop i spans))
+    (i ≤ 6) × (at ≤ rowsFrom + 4064 * i) × (monthPlace first month rowsFrom months spans ≡ monthPlace first month at (drop i months) (drop i spans))
 
 abbrev μ-loop : tie.MeasureT-loop
 μ-loop first month spans months at₀ i₀ at i = 6 - i

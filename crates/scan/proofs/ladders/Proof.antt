@@ -15,11 +15,12 @@ use Rattle.base.proofs.Loops.{start-of}
 use Rattle.scan.proofs.Steps.{six-months, ladder-le, spans-stop, spans-more, spans-end, spans-over}
 use Rattle.scan.proofs.ladders.Statement.{statement}
 use Rattle.scan.proofs.ladders.Tie as tie
+use Rattle.layout.specs.Bytes.{rowsFrom}
 
 abbrev Inv-loop : tie.InvT-loop
 Inv-loop register rows day first months spans₀ past₀ i₀ spans past i =
     (i ≤ 6) × (past ≤ rows) × (length spans ≡ 6)
-    × (ladderSpans day first [] months (rowsAt register 136 rows) ≡ ladderSpans day first (take i spans) (drop i months) (rowsAt register (136 + 8 * past) (rows - past)))
+    × (ladderSpans day first [] months (rowsAt register rowsFrom rows) ≡ ladderSpans day first (take i spans) (drop i months) (rowsAt register (rowsFrom + 8 * past) (rows - past)))
 
 abbrev μ-loop : tie.MeasureT-loop
 μ-loop register rows day first months spans₀ past₀ i₀ spans past i = 6 - i
@@ -28,7 +29,7 @@ found : (c : tie.After-ladder Inv-loop μ-loop) →
     let a = c .before .before .before .before .before .before .args in
     let l = c .before .before .before .loop in
     let m = getD (c .before .before .before .before .live-months .result) (l .i) 0 in
-    c .ladder .result ≡ ladderRows (a .day) m (tierOf (a .first) m) (rowsAt (a .register .now) (136 + 8 * l .past) (a .rows - l .past))
+    c .ladder .result ≡ ladderRows (a .day) m (tierOf (a .first) m) (rowsAt (a .register .now) (rowsFrom + 8 * l .past) (a .rows - l .past))
 found c = rw (c .before .tier-of .ensures) at (c .ladder .ensures)
 
 fits : (c : tie.After-ladder Inv-loop μ-loop) → c .ladder .result ≤ c .before .before .before .before .before .before .args .rows - c .before .before .before .loop .past
@@ -36,7 +37,7 @@ fits c =
     let a = c .before .before .before .before .before .before .args in
     let l = c .before .before .before .loop in
     let m = getD (c .before .before .before .before .live-months .result) (l .i) 0 in
-    omega (arith, found c, ladder-le (a .day) m (tierOf (a .first) m) (a .register .now) (136 + 8 * l .past) (a .rows - l .past))
+    omega (arith, found c, ladder-le (a .day) m (tierOf (a .first) m) (a .register .now) (rowsFrom + 8 * l .past) (a .rows - l .past))
 
 none-left : (c : tie.After-loop Inv-loop μ-loop) → drop (c .before .loop .i) (c .before .before .live-months .result) ≡ []
 none-left c =
@@ -51,7 +52,7 @@ loop-holds : tie.Need-loop-holds Inv-loop μ-loop
 loop-holds c =
     let a = c .before .before .args in
     let v = c .live-months in
-    (omega arith, omega arith, refl, start-of (λ n p. ladderSpans (a .day) (a .first) [] (v .result) (rowsAt (a .register .now) p n)) 8 (a .rows) 136)
+    (omega arith, omega arith, refl, start-of (λ n p. ladderSpans (a .day) (a .first) [] (v .result) (rowsAt (a .register .now) p n)) 8 (a .rows) rowsFrom)
 
 mul-month : tie.Need-mul-month Inv-loop μ-loop
 mul-month c = search needs
@@ -80,7 +81,7 @@ returns c =
     let l = c .before .before .before .before .loop in
     let v = c .before .before .before .before .before .live-months in
     let n = six-months _ _ (v .ensures) in
-    let e = spans-stop (a .day) (a .first) (take (l .i) (l .spans)) (v .result) (l .i) (omega arith) (a .register .now) (136 + 8 * l .past) (a .rows - l .past)
+    let e = spans-stop (a .day) (a .first) (take (l .i) (l .spans)) (v .result) (l .i) (omega arith) (a .register .now) (rowsFrom + 8 * l .past) (a .rows - l .past)
     _ (found (c .before)) (c .if1 .taken) in
     sym (rw (v .ensures) at (l .inv .3 ∙ e))
 
@@ -127,9 +128,9 @@ loop-again c =
     let v = c .before .before .before .before .before .before .before .live-months in
     let n = c .before .before .before .ladder .result in
     let k = six-months _ _ (v .ensures) in
-    let e = spans-more (a .day) (a .first) (take (l .i) (l .spans)) (v .result) (l .i) (omega arith) (a .register .now) (136 + 8 * l .past) (a .rows - l .past)
+    let e = spans-more (a .day) (a .first) (take (l .i) (l .spans)) (v .result) (l .i) (omega arith) (a .register .now) (rowsFrom + 8 * l .past) (a .rows - l .past)
     n (found (c .before .before .before)) (c .before .before .if1 .left) in
-    let p : 136 + 8 * l .past + 8 * n ≡ 136 + 8 * (l .past + n) = omega arith in
+    let p : rowsFrom + 8 * l .past + 8 * n ≡ rowsFrom + 8 * (l .past + n) = omega arith in
     let q : a .rows - l .past - n ≡ a .rows - (l .past + n) = omega arith in
     let t = take-suc-set (l .spans) (l .i) (c .before .word .result ∷ c .word2 .result ∷ []) (omega arith) in
     let f = fits (c .before .before .before) in
@@ -140,7 +141,7 @@ returns-2 c =
     let a = c .before .before .before .before .before .args in
     let l = c .before .before .loop in
     let v = c .before .before .before .live-months in
-    let e = spans-over (a .day) (a .first) (take (l .i) (l .spans)) _ (none-left (c .before)) (a .register .now) (136 + 8 * l .past) (a .rows - l .past) (omega arith) in
+    let e = spans-over (a .day) (a .first) (take (l .i) (l .spans)) _ (none-left (c .before)) (a .register .now) (rowsFrom + 8 * l .past) (a .rows - l .past) (omega arith) in
     sym (rw (v .ensures) at (l .inv .3 ∙ e))
 
 returns-3 : tie.Need-returns-3 Inv-loop μ-loop
@@ -148,7 +149,7 @@ returns-3 c =
     let a = c .before .before .before .before .before .args in
     let l = c .before .before .loop in
     let v = c .before .before .before .live-months in
-    let e = spans-end (a .day) (a .first) (take (l .i) (l .spans)) _ (none-left (c .before)) (a .register .now) (136 + 8 * l .past) (a .rows - l .past) (omega arith) in
+    let e = spans-end (a .day) (a .first) (take (l .i) (l .spans)) _ (none-left (c .before)) (a .register .now) (rowsFrom + 8 * l .past) (a .rows - l .past) (omega arith) in
     sym (rw (v .ensures) at (l .inv .3 ∙ e ∙ take-all (l .i) (l .spans) (omega arith)))
 
 pub ladders-spec : {M : Type 1} → statement M
