@@ -35,6 +35,9 @@ slice-write-register-3 c = simp length-set (omega (arith, c .before .register .g
 cast-register-2 : tie.Need-cast-register-2
 cast-register-2 c = search needs
 
+add-register : tie.Need-add-register
+add-register c = search needs
+
 slice-write-register-4 : tie.Need-slice-write-register-4
 slice-write-register-4 c = simp length-set (omega (arith, c .before .register .given .1))
 
@@ -47,11 +50,17 @@ slice-write-register-5 c = simp length-set (omega (arith, c .before .register .g
 cast-register-4 : tie.Need-cast-register-4
 cast-register-4 c = search needs
 
+add-register-2 : tie.Need-add-register-2
+add-register-2 c = search needs
+
 slice-write-register-6 : tie.Need-slice-write-register-6
 slice-write-register-6 c = simp length-set (omega (arith, c .before .register .given .1))
 
 slice-write-register-7 : tie.Need-slice-write-register-7
 slice-write-register-7 c = simp length-set (omega (arith, c .before .register .given .1))
+
+add-register-3 : tie.Need-add-register-3
+add-register-3 c = search needs
 
 slice-write-register-8 : tie.Need-slice-write-register-8
 slice-write-register-8 c = simp length-set (omega (arith, c .before .register .given .1))
@@ -78,12 +87,15 @@ write-head-spec =
     cast-register
     slice-write-register-3
     cast-register-2
+    add-register
     slice-write-register-4
     cast-register-3
     slice-write-register-5
     cast-register-4
+    add-register-2
     slice-write-register-6
     slice-write-register-7
+    add-register-3
     slice-write-register-8
     same-length
     returns)
