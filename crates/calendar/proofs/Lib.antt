@@ -1,3 +1,4 @@
 pub mod Bits
-pub mod Laws
+pub mod CalendarLaws
 pub mod LiveLaws
+pub mod EveryDay

@@ -1,19 +1,22 @@
 -- Laws of live months and tiers.
 -- Assumes nothing.
 use mathlib.Core.Path.{_≡_, _∙_}
-use mathlib.Core.Bool.{false}
+use mathlib.Core.Bool.{false, true, false≢true}
 use mathlib.Core.List.{List, [], _∷_, map}
 use Prim.Native.Nat.{ℕ, _+_, _*_, _/_, _%_, _≤_, _<_}
 use native.Mathlib.Omega.{arith}
-use borrow.Author.Tests.{lt-leb, le-leb, leb-true, eq-eqb, ne-eqb}
+use lib.Dec.{eqb}
+use borrow.Author.Tests.{lt-leb, le-leb, leb-true, eq-eqb, ne-eqb, eqb-true, eqb-false}
+use mathlib.Core.Logic.{_⊎_, inl, inr, ⊎-elim}
+use Rattle.base.specs.Lists.{elem}
 use Rattle.base.specs.declared.Tier.the-variants.{N, M, F}
-use Rattle.base.proofs.Tests.{byLe, clash}
+use Rattle.base.proofs.Tests.{byLe, clash, byBool, or-e, or-r, or-l}
 use Rattle.base.proofs.SearchLaws.{first-end, first-hit, first-skip, first-found, first-before, first-weaker, first-high}
 use Rattle.dates.specs.Months.{monthCount, dayCount, firstDay, monthOf}
-use Rattle.dates.proofs.Laws.{first-day-mono, third-friday-before, month-of-below, in-month}
+use Rattle.dates.proofs.MonthLaws.{first-day-mono, third-friday-before, month-of-below, in-month}
 use Rattle.calendar.specs.Calendar.{Passes, expiryOf}
 use Rattle.calendar.specs.Live.{unexpired, firstLive, quarterly, nextQuarter, liveMonths, tierOf}
-use Rattle.calendar.proofs.Laws.{expiry-to, expiry-from}
+use Rattle.calendar.proofs.CalendarLaws.{expiry-to, expiry-from}
 
 -- expiry dates that lie each in its own month
 pub record Dated (E : ℕ → ℕ) : Type 0 where
@@ -119,3 +122,48 @@ live-tiers f =
       tier-f f (nextQuarter f + 3) (omega arith),
       tier-f f (nextQuarter f + 6) (omega arith),
     )
+
+-- ---- a month that was live and is live again has been live between
+module _ (f m : ℕ) where
+  -- one of the first three, or a quarterly month up to the last
+  abbrev pub InReach : Type 0
+  InReach = (m ≤ f + 2) ⊎ ((m % 3 ≡ 2) × (m ≤ nextQuarter f + 6))
+
+  pub live-e : elem m (liveMonths f) ≡ true → (f ≤ m) × InReach
+  unfolding elem liveMonths
+  live-e e =
+      let q : ℕ = nextQuarter f in
+      let qe : q ≡ (f + 3) / 3 * 3 + 2 = quarter-is f in
+      or-e (eqb m f) _ e (λ t. let z = eqb-true m f t in (omega arith, inl (omega arith))) λ e₁.
+      or-e (eqb m (f + 1)) _ e₁ (λ t. let z = eqb-true m (f + 1) t in (omega arith, inl (omega arith))) λ e₂.
+      or-e (eqb m (f + 2)) _ e₂ (λ t. let z = eqb-true m (f + 2) t in (omega arith, inl (omega arith))) λ e₃.
+      or-e (eqb m q) _ e₃ (λ t. let z = eqb-true m q t in (omega arith, inr (omega arith, omega arith))) λ e₄.
+      or-e (eqb m (q + 3)) _ e₄ (λ t. let z = eqb-true m (q + 3) t in (omega arith, inr (omega arith, omega arith))) λ e₅.
+      or-e (eqb m (q + 6)) _ e₅ (λ t. let z = eqb-true m (q + 6) t in (omega arith, inr (omega arith, omega arith))) λ e₆. absurd (false≢true e₆)
+
+  pub live-near : f ≤ m → m ≤ f + 2 → elem m (liveMonths f) ≡ true
+  unfolding elem liveMonths
+  live-near a c =
+      byBool (eqb m f) (λ t. or-l (eqb m f) _ t) λ x. or-r (eqb m f) _
+      (byBool (eqb m (f + 1)) (λ t. or-l (eqb m (f + 1)) _ t) λ y. or-r (eqb m (f + 1)) _
+      (or-l (eqb m (f + 2)) _ (eq-eqb m (f + 2) (omega (arith, eqb-false m f x, eqb-false m (f + 1) y)))))
+
+  pub live-far : f + 2 < m → m % 3 ≡ 2 → m ≤ nextQuarter f + 6 → elem m (liveMonths f) ≡ true
+  unfolding elem liveMonths
+  live-far a c u =
+      let q : ℕ = nextQuarter f in
+      let qe : q ≡ (f + 3) / 3 * 3 + 2 = quarter-is f in
+      or-r (eqb m f) _ (or-r (eqb m (f + 1)) _ (or-r (eqb m (f + 2)) _
+      (byBool (eqb m q) (λ t. or-l (eqb m q) _ t) λ x. or-r (eqb m q) _
+      (byBool (eqb m (q + 3)) (λ t. or-l (eqb m (q + 3)) _ t) λ y. or-r (eqb m (q + 3)) _
+      (or-l (eqb m (q + 6)) false (eq-eqb m (q + 6) (omega (arith, eqb-false m q x, eqb-false m (q + 3) y))))))))
+
+pub live-between : (f g k m : ℕ) → f ≤ g → g ≤ k → elem m (liveMonths f) ≡ true → elem m (liveMonths k) ≡ true → elem m (liveMonths g) ≡ true
+live-between f g k m a c e l =
+    let from = live-e k m l .0 in
+    ⊎-elim
+    (λ n. live-near g m (omega arith) (omega arith))
+    (λ n. byLe m (g + 2)
+    (λ u. live-near g m (omega arith) u)
+    (λ u. live-far g m u (n .0) (omega (arith, n .1, quarter-is f, quarter-is g))))
+    (live-e f m e .1)

@@ -56,8 +56,8 @@ module _ (t : Tier) (j n : ℕ) (o : OnGrid t j) (l : j + stride t * n ≤ topNu
       select-none (within (price j) (price (j + stride t * n))) (pricesFrom (stride t) i k)
       (λ p e. let w = prices-at (stride t) i k p e in rw (← w .2) (within-number j (j + stride t * n) (i + stride t * w .0) ∙ h (w .0) (w .1)))
 
-  pub between : select (within (price j) (price (j + stride t * n))) (gridOf t) ≡ pricesFrom (stride t) j (suc n)
-  between =
+  pub run-between : select (within (price j) (price (j + stride t * n))) (gridOf t) ≡ pricesFrom (stride t) j (suc n)
+  run-between =
       let s : ℕ = stride t in
       let g : ℕ → Bool = within (price j) (price (j + s * n)) in
       let k = place-of t j o in
@@ -87,7 +87,7 @@ module _ (t : Tier) (lo hi : ℕ) (l : OnGrid t lo) (h : OnGrid t hi) (o : lo �
   pub run-is : select (within (price lo) (price hi)) (gridOf t) ≡ pricesFrom (stride t) lo (suc ((hi - lo) / stride t))
   run-is =
       ap (λ (k : ℕ). select (within (price lo) (price k)) (gridOf t)) (sym run-end)
-      ∙ between t lo ((hi - lo) / stride t) l (omega (arith, run-end, h .to))
+      ∙ run-between t lo ((hi - lo) / stride t) l (omega (arith, run-end, h .to))
 
 -- ---- bands
 

@@ -35,7 +35,7 @@ use Rattle.calls.specs.Listing.{number}
 use Rattle.calls.specs.Answers.{numberAt}
 use Rattle.history.specs.Claim.{emptyRegister, finalAt}
 use Rattle.history.proofs.Closing.{always-stands}
-use Rattle.history.proofs.EveryDay.{everyDay, every-day-passes, every-day-session, every-day-first}
+use Rattle.calendar.proofs.EveryDay.{everyDay, every-day-passes, every-day-session, every-day-first}
 
 -- ---- start, on the empty register
 empty-read : regOf emptyRegister ≡ empty

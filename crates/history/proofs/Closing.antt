@@ -29,7 +29,7 @@ use Rattle.layout.specs.Opening.{stands, emptyOrWell}
 use Rattle.layout.proofs.OpeningLaws.{none-opened}
 use Rattle.layout.proofs.ByteLaws.{PlacesFit, RowsFit, Fits, RegFits, back, body-back, day-back, count-back, bytes-length, layout-kept}
 use Rattle.calls.specs.Answers.{numberAt, afterAt}
-use Rattle.history.specs.Claim.{emptyRegister, finalAt, numbersAt, rowTold, rowsIn, HoldsDay, ClaimAt, Claim}
+use Rattle.history.specs.Claim.{emptyRegister, finalAt, numbersAt, rowTold, rowsStanding, HoldsDay, ClaimAt, Claim}
 use Rattle.history.proofs.Simulation.{Running, Agree, key, between-is, accept}
 use Rattle.history.proofs.Ascend.{rows-ascend}
 use Rattle.history.proofs.Sound.{Sound, SoundReg, sound-accept, well}
@@ -188,7 +188,7 @@ module _ (R : Rules) (L : Laws R) where
       ∙ rw (tell-rows h x f ms (λ n p e. k n p (elem-there n m ms e)))
 
   holds : (h : History) (b : Body) → Running R h b → Fits b → HoldsDay R h (b .at) (bodyBytes b)
-  unfolding rowsIn rowsTold bodyOf key
+  unfolding rowsStanding rowsTold bodyOf key
   holds h b s f =
       let body = body-back b f in
       let told-rows : map rowTold (b .rows) ≡ monthsTold R h (b .at) (R .live (b .at)) =

@@ -2,7 +2,6 @@ pub mod Simulation
 pub mod Sound
 pub mod Ascend
 pub mod Closing
-pub mod EveryDay
 pub mod Accepts
 pub mod Written
 pub mod Lasting

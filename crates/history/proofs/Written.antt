@@ -12,8 +12,8 @@ use Rattle.base.specs.Lists.{elem}
 use Rattle.base.specs.Causes.{firstOf}
 use Rattle.base.proofs.Tests.{byBool, and-l, and-r, and-i, or-e}
 use Rattle.base.proofs.CauseLaws.{none-of, not-cause}
-use Rattle.calendar.specs.Calendar.{Passes, expiryOf}
-use Rattle.calendar.specs.Live.{firstLive, liveMonths, tierOf}
+use Rattle.calendar.specs.Calendar.{Passes}
+use Rattle.calendar.specs.Live.{liveMonths, tierOf}
 use Rattle.grid.specs.Numbers.{price}
 use Rattle.grid.proofs.Prices.{price-mono}
 use Rattle.grid.proofs.Grids.{number-on}

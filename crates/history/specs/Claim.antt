@@ -40,8 +40,8 @@ unfoldable pub rowTold : Row → ℕ × ℕ × ℕ
 rowTold r = (r .month, r .price, r .entry .first)
 
 -- the rows of a register's bytes, without origins
-unfoldable pub rowsIn : List ℕ → List (ℕ × ℕ × ℕ)
-rowsIn bs = map rowTold (readRows (at16 bs 4) (drop rowsFrom bs))
+unfoldable pub rowsStanding : List ℕ → List (ℕ × ℕ × ℕ)
+rowsStanding bs = map rowTold (readRows (at16 bs 4) (drop rowsFrom bs))
 
 -- ascending by month, then price, behind a month and a price
 unfoldable pub ascendFrom : ℕ → ℕ → List (ℕ × ℕ × ℕ) → Bool
@@ -56,9 +56,9 @@ ascending (e ∷ es) = ascendFrom (e .0) (e .1) es
 -- then price; bytes 4–5 hold their number, at most 1,391
 pub record HoldsDay (R : Rules) (h : History) (x : Moment) (bs : List ℕ) : Type 0 where
   pub day : at16 bs 2 ≡ x .day
-  pub rows : rowsIn bs ≡ rowsTold R h x
+  pub rows : rowsStanding bs ≡ rowsTold R h x
   pub dated : (m p : ℕ) → elem m (R .live x) ≡ true → elem p (between R x (h .low) (h .high) m) ≡ true → (d : ℕ) × (h .first m p ≡ some d)
-  pub ascend : ascending (rowsIn bs) ≡ true
+  pub ascend : ascending (rowsStanding bs) ≡ true
   pub count : at16 bs 4 ≡ length (rowsTold R h x)
   pub most : at16 bs 4 ≤ mostRows
 

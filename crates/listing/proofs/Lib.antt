@@ -1,4 +1,4 @@
-pub mod Opens
+pub mod Causes
 pub mod Head
 pub mod Counting
 pub mod Plans

@@ -16,7 +16,7 @@ use Rattle.base.proofs.ListLaws.{elem-here, elem-there, within-i, within-l, wit
 use Rattle.base.proofs.Rising.{rises-tail, risesAll, select-rises}
 use Rattle.calendar.specs.Calendar.{nextSession}
 use Rattle.calendar.specs.Live.{liveMonths, tierOf}
-use Rattle.calendar.proofs.Laws.{next-later}
+use Rattle.calendar.proofs.CalendarLaws.{next-later}
 use Rattle.calendar.proofs.LiveLaws.{tier-n}
 use Rattle.grid.specs.Grid.{gridOf, requiredLow, requiredHigh}
 use Rattle.grid.specs.Numbers.{price, numberOf}

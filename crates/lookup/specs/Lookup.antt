@@ -1,4 +1,4 @@
--- How a question's answer is told: a number, or 65,535 where the question lies outside its range.
+-- How a question's orOutside is told: a number, or 65,535 where the question lies outside its range.
 -- Assumes nothing.
 use mathlib.Core.Bool.{Bool, cond, _&&_}
 use Prim.Native.Nat.{ℕ, _+_, _-_, _%_}
@@ -13,9 +13,9 @@ use Rattle.lookup.specs.declared.Date.{Date}
 abbrev pub outside : ℕ
 outside = 65535
 
--- the answer where the question is within its range
-abbrev pub answer : Bool → ℕ → ℕ
-answer inRange n = cond inRange n outside
+-- the orOutside where the question is within its range
+abbrev pub orOutside : Bool → ℕ → ℕ
+orOutside inRange n = cond inRange n outside
 
 -- yes is 1, no is 0
 abbrev pub yes : Bool → ℕ
@@ -27,8 +27,8 @@ tierNumber N = 0
 tierNumber M = 1
 tierNumber F = 2
 
-unfoldable pub tierAt : ℕ → Tier
-tierAt n = cond (eqb n 0) N (cond (eqb n 1) M F)
+unfoldable pub tierNumbered : ℕ → Tier
+tierNumbered n = cond (eqb n 0) N (cond (eqb n 1) M F)
 
 -- day d as year, month from 1 to 12, and day of the month from 1 on; zeros where d is no day
 unfoldable pub dateOf : ℕ → Date
@@ -43,6 +43,6 @@ unfoldable pub requiredAt : ℕ → ℕ → Strikes
 requiredAt tier close =
     let inRange : Bool = leb tier 2 && closeTaken close in
     record {
-      low = cond inRange (requiredLow (tierAt tier) close) 0;
-      high = cond inRange (requiredHigh (tierAt tier) close) 0;
+      low = cond inRange (requiredLow (tierNumbered tier) close) 0;
+      high = cond inRange (requiredHigh (tierNumbered tier) close) 0;
     }

@@ -1,5 +1,5 @@
 // Single questions about days, months, a calendar and the grids: total functions over any bytes and any 32-bit numbers.
-// The console asks them, and the host tests compare every answer with another implementation.
+// The console asks them, and the host tests compare every orOutside with another implementation.
 use base::Tier;
 use dates::DAYS;
 use dates::MONTHS;
@@ -13,9 +13,9 @@ ghost use Rattle.dates.specs.Months.{monthCount, dayCount, firstDay, thirdFrida
 ghost use Rattle.calendar.specs.Calendar.{session, calendarCause, expiryOf, nextSession};
 ghost use Rattle.calendar.specs.Live.{firstLive, liveMonths, tierOf};
 ghost use Rattle.grid.specs.Grid.{gridOf, nearest, closeTaken};
-ghost use Rattle.lookup.specs.Lookup.{answer, yes, tierNumber, tierAt, requiredAt, dateOf};
+ghost use Rattle.lookup.specs.Lookup.{orOutside, yes, tierNumber, tierNumbered, requiredAt, dateOf};
 
-// The answer to a question outside its range: no day, month, tier or price has this number.
+// The orOutside to a question outside its range: no day, month, tier or price has this number.
 pub const OUTSIDE: u32 = 65535;
 
 // A day as people write it.
@@ -28,7 +28,7 @@ pub struct Date {
 
 #[no_mangle]
 pub extern "C" fn lookup_first_day(month: u32) -> u32
-    ensures { λ r. ⌜ r ≡ answer (leb month monthCount) (firstDay month) ⌝ }
+    ensures { λ r. ⌜ r ≡ orOutside (leb month monthCount) (firstDay month) ⌝ }
 {
     if month <= MONTHS as u32 {
         dates::first_day(month as u16) as u32
@@ -39,7 +39,7 @@ pub extern "C" fn lookup_first_day(month: u32) -> u32
 
 #[no_mangle]
 pub extern "C" fn lookup_third_friday(month: u32) -> u32
-    ensures { λ r. ⌜ r ≡ answer (ltb month monthCount) (thirdFriday month) ⌝ }
+    ensures { λ r. ⌜ r ≡ orOutside (ltb month monthCount) (thirdFriday month) ⌝ }
 {
     if month < MONTHS as u32 {
         dates::third_friday(month as u16) as u32
@@ -51,7 +51,7 @@ pub extern "C" fn lookup_third_friday(month: u32) -> u32
 // The same from the constant table.
 #[no_mangle]
 pub extern "C" fn lookup_third_friday_table(month: u32) -> u32
-    ensures { λ r. ⌜ r ≡ answer (ltb month monthCount) (thirdFriday month) ⌝ }
+    ensures { λ r. ⌜ r ≡ orOutside (ltb month monthCount) (thirdFriday month) ⌝ }
 {
     if month < MONTHS as u32 {
         let fridays = dates::third_fridays();
@@ -63,7 +63,7 @@ pub extern "C" fn lookup_third_friday_table(month: u32) -> u32
 
 #[no_mangle]
 pub extern "C" fn lookup_month_of(day: u32) -> u32
-    ensures { λ r. ⌜ r ≡ answer (ltb day dayCount) (monthOf day) ⌝ }
+    ensures { λ r. ⌜ r ≡ orOutside (ltb day dayCount) (monthOf day) ⌝ }
 {
     if day < DAYS as u32 {
         dates::month_of(day as u16) as u32
@@ -106,7 +106,7 @@ pub extern "C" fn lookup_has_session(calendar: &[u8], day: u32) -> u32
 
 #[no_mangle]
 pub extern "C" fn lookup_expiry(calendar: &[u8], month: u32) -> u32
-    ensures { λ r. ⌜ r ≡ answer (ltb month monthCount) (expiryOf (now (calendar .entry)) month) ⌝ }
+    ensures { λ r. ⌜ r ≡ orOutside (ltb month monthCount) (expiryOf (now (calendar .entry)) month) ⌝ }
 {
     if month < MONTHS as u32 {
         calendar::expiry(calendar, month as u16) as u32
@@ -117,7 +117,7 @@ pub extern "C" fn lookup_expiry(calendar: &[u8], month: u32) -> u32
 
 #[no_mangle]
 pub extern "C" fn lookup_next_session(calendar: &[u8], day: u32) -> u32
-    ensures { λ r. ⌜ r ≡ answer (ltb day dayCount) (nextSession (now (calendar .entry)) day) ⌝ }
+    ensures { λ r. ⌜ r ≡ orOutside (ltb day dayCount) (nextSession (now (calendar .entry)) day) ⌝ }
 {
     if day < DAYS as u32 {
         calendar::next_session(calendar, day as u16) as u32
@@ -129,7 +129,7 @@ pub extern "C" fn lookup_next_session(calendar: &[u8], day: u32) -> u32
 // The first live month is asked of a calendar that passes its check.
 #[no_mangle]
 pub extern "C" fn lookup_first_live(calendar: &[u8], day: u32) -> u32
-    ensures { λ r. ⌜ r ≡ answer (eqb (calendarCause (now (calendar .entry))) 0 && ltb day dayCount) (firstLive (expiryOf (now (calendar .entry))) day) ⌝ }
+    ensures { λ r. ⌜ r ≡ orOutside (eqb (calendarCause (now (calendar .entry))) 0 && ltb day dayCount) (firstLive (expiryOf (now (calendar .entry))) day) ⌝ }
 {
     let checked = calendar::check(calendar);
     if checked.number != 0 {
@@ -145,7 +145,7 @@ pub extern "C" fn lookup_first_live(calendar: &[u8], day: u32) -> u32
 // A place from 0 to 5 of the six live months.
 #[no_mangle]
 pub extern "C" fn lookup_live_month(first: u32, place: u32) -> u32
-    ensures { λ r. ⌜ r ≡ answer (leb first monthCount && ltb place 6) (getD (liveMonths first) place 0) ⌝ }
+    ensures { λ r. ⌜ r ≡ orOutside (leb first monthCount && ltb place 6) (getD (liveMonths first) place 0) ⌝ }
 {
     if first <= MONTHS as u32 {
         if place < 6 {
@@ -169,7 +169,7 @@ fn tier_number(tier: Tier) -> u32
 
 #[no_mangle]
 pub extern "C" fn lookup_tier_of(first: u32, month: u32) -> u32
-    ensures { λ r. ⌜ r ≡ answer (leb first monthCount && leb month 65535) (tierNumber (tierOf first month)) ⌝ }
+    ensures { λ r. ⌜ r ≡ orOutside (leb first monthCount && leb month 65535) (tierNumber (tierOf first month)) ⌝ }
 {
     if first <= MONTHS as u32 {
         if month <= 65535 {
@@ -180,7 +180,7 @@ pub extern "C" fn lookup_tier_of(first: u32, month: u32) -> u32
 }
 
 fn tier_at(tier: u32) -> Tier
-    ensures { λ r. ⌜ r ≡ tierAt tier ⌝ }
+    ensures { λ r. ⌜ r ≡ tierNumbered tier ⌝ }
 {
     if tier == 0 {
         Tier::N
@@ -193,7 +193,7 @@ fn tier_at(tier: u32) -> Tier
 
 #[no_mangle]
 pub extern "C" fn lookup_on_grid(tier: u32, price: u32) -> u32
-    ensures { λ r. ⌜ r ≡ yes (leb tier 2 && elem price (gridOf (tierAt tier))) ⌝ }
+    ensures { λ r. ⌜ r ≡ yes (leb tier 2 && elem price (gridOf (tierNumbered tier))) ⌝ }
 {
     if tier <= 2 {
         if grid::on_grid(tier_at(tier), price) {
@@ -205,7 +205,7 @@ pub extern "C" fn lookup_on_grid(tier: u32, price: u32) -> u32
 
 #[no_mangle]
 pub extern "C" fn lookup_nearest(tier: u32, close: u32) -> u32
-    ensures { λ r. ⌜ r ≡ answer (leb tier 2 && closeTaken close) (nearest close (gridOf (tierAt tier))) ⌝ }
+    ensures { λ r. ⌜ r ≡ orOutside (leb tier 2 && closeTaken close) (nearest close (gridOf (tierNumbered tier))) ⌝ }
 {
     if tier <= 2 {
         if grid::close_taken(close) {

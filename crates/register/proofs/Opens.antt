@@ -98,7 +98,7 @@ opens cal bs =
     low = calendar-low (not (eqb (length cal) calendarLength)) (tailSet cal) (someIn (lacks cal) 0 monthCount)
 
 -- a register that runs, read, with its spans
-pub record Runs (cal bs : List ℕ) (spans : List (List ℕ)) : Type 0 where
+pub record RunsWith (cal bs : List ℕ) (spans : List (List ℕ)) : Type 0 where
   pub reads : Reads cal bs (running (bodyOf bs))
   pub run : Running cal bs
   pub well : runsWell cal bs ≡ true
@@ -149,7 +149,7 @@ module _ (cal bs : List ℕ) (o : Checked) (is : o ≡ openingOf cal bs) where
           let never : runsWell cal bs ≡ false = byBool (runsWell cal bs) (λ w. absurd (standing-none cal bs (h .1) (rw st at z) (runs cal bs w))) (λ w. w) in
           record { says = says-15 (rules cal) bs own (h .0) (h .1) (stands-else cal bs (h .2) ∙ never); some = λ q. omega arith; month = refl }
 
-      pub standing-runs : (getD (getD spans 0 []) 0 0 ≡ 0 → ⊥) → Runs cal bs spans
+      pub standing-runs : (getD (getD spans 0 []) 0 0 ≡ 0 → ⊥) → RunsWith cal bs spans
       standing-runs s =
           let h = has-status in
           let r = standing-some cal bs (rw st at s) in

@@ -35,7 +35,7 @@ use Rattle.layout.proofs.Running.{Running, runs, runs-i}
 use Rattle.layout.proofs.Held.{ladderOf, Held, there, least-held, greatest-held, live-apart, held}
 use Rattle.base.proofs.WordLaws.{at16-drop}
 use Rattle.register.proofs.Kept.{EndsZero, layout-is, kept, rows-part}
-use Rattle.scan.proofs.Found.{blank, Found, find-ladders, held-found, spans-held}
+use Rattle.scan.proofs.Found.{blank, LaddersFound, find-ladders, held-found, spans-held}
 
 -- ---- the rows as they are scanned are the rows, where the byte behind each origin is zero
 module _ (bs : List ℕ) where
@@ -116,7 +116,7 @@ pub record Scanned (cal bs : List ℕ) (spans : List (List ℕ)) : Type 0 where
   pub some : getD (getD spans 0 []) 0 0 ≡ 0 → ⊥
 
 module _ (cal bs : List ℕ) (l : length bs ≡ registerLength) (bytes : (i : ℕ) → getD bs i 0 < 256) (spans : List (List ℕ)) (r : Scanned cal bs spans) where
-  scan-found : Found (at16 bs 2) (firstAt cal (momentOf bs)) (liveMonths (firstAt cal (momentOf bs))) (rowsAt bs rowsFrom (at16 bs 4))
+  scan-found : LaddersFound (at16 bs 2) (firstAt cal (momentOf bs)) (liveMonths (firstAt cal (momentOf bs))) (rowsAt bs rowsFrom (at16 bs 4))
   scan-found =
       let f : ℕ = firstAt cal (momentOf bs) in
       ⊎-elim (λ z. absurd (r .some (ap (λ (x : List (List ℕ)). getD (getD x 0 []) 0 0) (r .spans-is ∙ z)))) (λ w. w)
@@ -129,7 +129,7 @@ module _ (cal bs : List ℕ) (l : length bs ≡ registerLength) (bytes : (i : �
   unfolding bodyOf
   rows-are = rows-same bs (at16 bs 4) rowsFrom ends
 
-  found : Found (at16 bs 2) (firstAt cal (momentOf bs)) (liveMonths (firstAt cal (momentOf bs))) (bodyOf bs .rows)
+  found : LaddersFound (at16 bs 2) (firstAt cal (momentOf bs)) (liveMonths (firstAt cal (momentOf bs))) (bodyOf bs .rows)
   found = rw rows-are at scan-found
 
   scan-held : Held (firstAt cal (momentOf bs)) (bodyOf bs .rows)

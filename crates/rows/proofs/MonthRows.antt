@@ -33,7 +33,7 @@ use Rattle.rows.specs.Places.{ladderSize, noRows, monthPlace}
 use Rattle.layout.proofs.ByteLaws.{rows-length}
 use Rattle.layout.proofs.Held.{ladderOf, Held}
 use Rattle.grid.proofs.Runs.{run-is}
-use Rattle.scan.proofs.Found.{Spanned, spanned}
+use Rattle.scan.proofs.Found.{SpanHeld, spanned}
 use Rattle.layout.proofs.Running.{Running, runs}
 use Rattle.register.proofs.Well.{run-held, rows-behind}
 use Rattle.layout.proofs.OpeningLaws.{none-opened, Refused, Reads, reads-own, refused-own, stands-else}
@@ -133,7 +133,7 @@ module _ (m : ℕ) (G : ℕ → List ℕ) (entry : ℕ → ℕ → Entry) where
 
 -- ---- the place of a month's rows, where the ladders of months that ascend stand from a byte on
 module _ (f m : ℕ) (b : Body) (low high : ℕ → ℕ) (entry : ℕ → ℕ → Entry) where
-  size-is : (n : ℕ) → Spanned f b low high n → ladderSize (tierOf f n) (spanLow b n) (spanHigh b n) ≡ length (ladder n (entry n) (ladderOf f low high n))
+  size-is : (n : ℕ) → SpanHeld f b low high n → ladderSize (tierOf f n) (spanLow b n) (spanHigh b n) ≡ length (ladder n (entry n) (ladderOf f low high n))
   unfolding ladderSize
   size-is n w =
       let lo = number-price (low n) (w .low-on .from) (w .low-on .to) in
@@ -143,7 +143,7 @@ module _ (f m : ℕ) (b : Body) (low high : ℕ → ℕ) (entry : ℕ → ℕ �
       let p = ap length run ∙ prices-length (stride (tierOf f n)) (low n) (suc ((high n - low n) / stride (tierOf f n))) in
       rw (w .span-low, w .span-high, lo, hi) (omega arith)
 
-  placed : (ms : List ℕ) (at : ℕ) → ((n : ℕ) → elem n ms ≡ true → Spanned f b low high n) → risesAll ms ≡ true → elem m ms ≡ true →
+  placed : (ms : List ℕ) (at : ℕ) → ((n : ℕ) → elem n ms ≡ true → SpanHeld f b low high n) → risesAll ms ≡ true → elem m ms ≡ true →
       let rs = rowsOf ms (ladderOf f low high) entry in
       monthPlace f m at ms (spansOf b ms) ≡ record { number = 0; at = at + 8 * length (earlierRows m rs); size = 8 * length (monthRows m rs) }
   unfolding monthPlace spansOf elem risesAll
@@ -167,7 +167,7 @@ not-placed f m b [] at e = refl
 not-placed f m b (n ∷ ns) at e = rw (or-fl (eqb m n) (elem m ns) e) (not-placed f m b ns _ (or-fr (eqb m n) (elem m ns) e))
 
 -- each span's numbers ascend
-each-order : (f : ℕ) (b : Body) (low high : ℕ → ℕ) (ms : List ℕ) → ((n : ℕ) → elem n ms ≡ true → Spanned f b low high n)
+each-order : (f : ℕ) (b : Body) (low high : ℕ → ℕ) (ms : List ℕ) → ((n : ℕ) → elem n ms ≡ true → SpanHeld f b low high n)
     → (i : ℕ) → i < length ms → numberOf (getD (getD (spansOf b ms) i []) 0 0) ≤ numberOf (getD (getD (spansOf b ms) i []) 1 0)
 unfolding spansOf
 each-order f b low high [] h i l = absurd (omega arith)

@@ -11,7 +11,7 @@ use Rattle.base.proofs.Tests.{byLe}
 use Rattle.dates.specs.Months.{monthCount}
 use Rattle.calendar.specs.Calendar.{Passes, nextSession}
 use Rattle.calendar.specs.Live.{firstLive}
-use Rattle.calendar.proofs.Laws.{expiry-session, next-later, next-by}
+use Rattle.calendar.proofs.CalendarLaws.{expiry-session, next-later, next-by}
 use Rattle.calendar.proofs.LiveLaws.{Dated, dates-ascend, calendar-dated, live-unexpired, live-first}
 use Rattle.rules.specs.Rules.{Moment, next, lastFirstMonth}
 use Rattle.rules.specs.Rulebook.{moved, expiryAt, firstAt, rules}

@@ -17,7 +17,7 @@ use Rattle.base.proofs.Rising.{rises, risesAll}
 use Rattle.dates.specs.Months.{monthCount, dayCount}
 use Rattle.calendar.specs.Calendar.{session, expiryOf, nextSession}
 use Rattle.calendar.specs.Live.{firstLive, nextQuarter, liveMonths, tierOf}
-use Rattle.calendar.proofs.Laws.{expiry-below, next-later}
+use Rattle.calendar.proofs.CalendarLaws.{expiry-below, next-later}
 use Rattle.calendar.proofs.LiveLaws.{live-mono, live-day, live-top, quarter-is, tier-n, tier-m, tier-f}
 use Rattle.grid.specs.Grid.{upBy, band, gridOf}
 use Rattle.grid.proofs.GridLaws.{grid-sizes, F-in-M, M-in-N, price-le, required-low, required-high}

@@ -28,7 +28,7 @@ use Rattle.scan.specs.Scan.{fitting, climbed, headPrice, ladderRows, lad
 use Rattle.layout.proofs.RowLaws.{rowsOf-same}
 use Rattle.layout.proofs.Held.{ladderOf, Held, least-held, greatest-held, Apart, live-apart, keyed}
 use Rattle.grid.proofs.Between.{grid-number}
-use Rattle.grid.proofs.Runs.{next-price, next-on, between, run-end, run-is}
+use Rattle.grid.proofs.Runs.{next-price, next-on, run-between, run-end, run-is}
 use Rattle.grid.proofs.Prices.{top-number, top-price}
 
 abbrev pub blank : ℕ → ℕ → Entry
@@ -111,7 +111,7 @@ module _ (m : ℕ) (t : Tier) (g : ℕ → Entry) (rest : List Row) where
     ladder-laid j n o l k = rw (first-price j n, number-on t j o) (climb-laid j (suc n) (o .multiple) l k)
 
 -- ---- the ladders of some months, as they are found
-pub record Found (day f : ℕ) (ms : List ℕ) (rs : List Row) : Type 0 where
+pub record LaddersFound (day f : ℕ) (ms : List ℕ) (rs : List Row) : Type 0 where
   pub low : ℕ → ℕ
   pub high : ℕ → ℕ
   pub low-on : (m : ℕ) → elem m ms ≡ true → OnGrid (tierOf f m) (low m)
@@ -121,7 +121,7 @@ pub record Found (day f : ℕ) (ms : List ℕ) (rs : List Row) : Type 0 where
   pub entries : entriesOk day rs ≡ true
 
 -- a month's ladder from a lowest to a highest number, which are the ends of its span
-pub record Spanned (f : ℕ) (b : Body) (low high : ℕ → ℕ) (m : ℕ) : Type 0 where
+pub record SpanHeld (f : ℕ) (b : Body) (low high : ℕ → ℕ) (m : ℕ) : Type 0 where
   pub low-on : OnGrid (tierOf f m) (low m)
   pub high-on : OnGrid (tierOf f m) (high m)
   pub order : low m ≤ high m
@@ -131,7 +131,7 @@ pub record Spanned (f : ℕ) (b : Body) (low high : ℕ → ℕ) (m : ℕ) : Typ
 module _ (day f : ℕ) where
   -- one month more in front, whose ladder goes from number j to the n-th behind it
   one-more : (m : ℕ) (ms : List ℕ) (rs : List Row) (j n : ℕ) → elem m ms ≡ false → OnGrid (tierOf f m) j → Climb day m (tierOf f m) j (suc n) rs
-      → Found day f ms (drop (suc n) rs) → Found day f (m ∷ ms) rs
+      → LaddersFound day f ms (drop (suc n) rs) → LaddersFound day f (m ∷ ms) rs
   unfolding rowsOf elem
   one-more m ms rs j n apart o c w =
       let s : ℕ = stride (tierOf f m) in
@@ -143,7 +143,7 @@ module _ (day f : ℕ) where
         to = l;
         multiple = by-stride (λ s. j % s ≡ 0 → (j + s * n) % s ≡ 0) (λ z. omega arith) (λ z. omega arith) (λ z. omega arith) (tierOf f m) (o .multiple);
       } in
-      let first : ladderOf f low high m ≡ pricesFrom s j (suc n) = rw (eqb-self m) (between (tierOf f m) j n o l) in
+      let first : ladderOf f low high m ≡ pricesFrom s j (suc n) = rw (eqb-self m) (run-between (tierOf f m) j n o l) in
       let others : rowsOf ms (ladderOf f low high) blank ≡ rowsOf ms (ladderOf f (w .low) (w .high)) blank =
       rowsOf-same ms (ladderOf f low high) (ladderOf f (w .low) (w .high)) blank blank
       (λ k h. rw (ne-eqb k m (λ z. clash (elem m ms) (rw z at h) apart))) (λ k p h g. refl) in
@@ -172,7 +172,7 @@ module _ (day f : ℕ) where
       (numberOf p, k .0, rw q at c))
       (λ g. absurd (let z : 0 ≡ suc n = rw g at e in omega arith))
 
-  pub find-ladders : (done : List (List ℕ)) (ms : List ℕ) (rs : List Row) → Apart ms → (ladderSpans day f done ms rs ≡ noSpans) ⊎ Found day f ms rs
+  pub find-ladders : (done : List (List ℕ)) (ms : List ℕ) (rs : List Row) → Apart ms → (ladderSpans day f done ms rs ≡ noSpans) ⊎ LaddersFound day f ms rs
   unfolding ladderSpans sameKeys rowsOf entriesOk elem
   find-ladders done [] [] a =
       inr (record {
@@ -188,8 +188,8 @@ module _ (day f : ℕ) where
   find-ladders done (m ∷ ms) rs a = go (ladderRows day m (tierOf f m) rs) refl (λ spans n. find-ladders spans ms (drop n rs) (a .1))
     where
       go : (n : ℕ) → ladderRows day m (tierOf f m) rs ≡ n
-          → ((spans : List (List ℕ)) (n : ℕ) → (ladderSpans day f spans ms (drop n rs) ≡ noSpans) ⊎ Found day f ms (drop n rs))
-          → (cond (eqb n 0) noSpans (ladderSpans day f (done ++ ((headPrice rs ∷ headPrice (drop (n - 1) rs) ∷ []) ∷ [])) ms (drop n rs)) ≡ noSpans) ⊎ Found day f (m ∷ ms) rs
+          → ((spans : List (List ℕ)) (n : ℕ) → (ladderSpans day f spans ms (drop n rs) ≡ noSpans) ⊎ LaddersFound day f ms (drop n rs))
+          → (cond (eqb n 0) noSpans (ladderSpans day f (done ++ ((headPrice rs ∷ headPrice (drop (n - 1) rs) ∷ []) ∷ [])) ms (drop n rs)) ≡ noSpans) ⊎ LaddersFound day f (m ∷ ms) rs
       go zero e next = inl refl
       go (suc n) e next =
           let k = stands-first m rs n e in
@@ -203,7 +203,7 @@ module _ (day f : ℕ) where
   entries-append (x ∷ xs) ys h = let r = entries-append xs ys (and-r (entryOk day (x .entry)) _ h) in (and-i (and-l (entryOk day (x .entry)) _ h) (r .0), r .1)
 
   module _ (low high : ℕ → ℕ) (entry : ℕ → ℕ → Entry) (b : Body) where
-    ladders-found : (done : List (List ℕ)) (ms : List ℕ) → ((m : ℕ) → elem m ms ≡ true → Spanned f b low high m) → Apart ms
+    ladders-found : (done : List (List ℕ)) (ms : List ℕ) → ((m : ℕ) → elem m ms ≡ true → SpanHeld f b low high m) → Apart ms
         → entriesOk day (rowsOf ms (ladderOf f low high) entry) ≡ true
         → ladderSpans day f done ms (rowsOf ms (ladderOf f low high) entry) ≡ done ++ spansOf b ms
     unfolding ladderSpans rowsOf spansOf
@@ -234,7 +234,7 @@ module _ (day f : ℕ) where
         ∙ append-snoc done (price j ∷ price (high m) ∷ []) (spansOf b ms) ∙ rw (w .span-low, w .span-high))
 
 -- ---- all six
-unfoldable pub held-found : (day f : ℕ) (rs : List Row) → Found day f (liveMonths f) rs → Held f rs
+unfoldable pub held-found : (day f : ℕ) (rs : List Row) → LaddersFound day f (liveMonths f) rs → Held f rs
 held-found day f rs w =
     let k = keyed (liveMonths f) (ladderOf f (w .low) (w .high)) blank rs (live-apart f)
     (λ m. select-rises (within (price (w .low m)) (price (w .high m))) 0 (gridOf (tierOf f m)) (grid-rises (tierOf f m))) (w .keys) in
@@ -248,7 +248,7 @@ held-found day f rs w =
       rows-are = k .1;
     }
 
-pub spanned : (f : ℕ) (b : Body) (h : Held f (b .rows)) (m : ℕ) → elem m (liveMonths f) ≡ true → Spanned f b (h .low) (h .high) m
+pub spanned : (f : ℕ) (b : Body) (h : Held f (b .rows)) (m : ℕ) → elem m (liveMonths f) ≡ true → SpanHeld f b (h .low) (h .high) m
 unfolding spanLow spanHigh
 spanned f b h m e = record {
   low-on = h .low-on m e;

@@ -24,7 +24,7 @@ use Rattle.layout.specs.Bytes.{bodyOf, momentOf}
 use Rattle.calls.specs.Listing.{startBody}
 use Rattle.calls.specs.Answers.{afterAt}
 use Rattle.history.specs.Claim.{emptyRegister}
-use Rattle.history.proofs.EveryDay.{everyDay, every-day-passes, every-day-session, every-day-next, every-day-first, every-day-later}
+use Rattle.calendar.proofs.EveryDay.{everyDay, every-day-passes, every-day-session, every-day-next, every-day-first, every-day-later}
 use Rattle.history.proofs.Accepts.{november-first}
 use Rattle.history.proofs.Written.{written-body, written-runs}
 use Rattle.worked.specs.Worked.{LiveAs, CanStart, CanMove, table}

@@ -15,7 +15,7 @@ use Rattle.base.specs.declared.Tier.{Tier}
 use Rattle.base.proofs.Tests.{byBool, byLe, and-l, and-r, and-i, eqb-self}
 use Rattle.calendar.specs.Calendar.{Passes, expiryOf, nextSession}
 use Rattle.calendar.specs.Live.{firstLive, liveMonths}
-use Rattle.calendar.proofs.Laws.{next-later}
+use Rattle.calendar.proofs.CalendarLaws.{next-later}
 use Rattle.calendar.proofs.LiveLaws.{calendar-dated, dates-ascend, live-unexpired}
 use Rattle.grid.specs.Grid.{gridOf, requiredLow, requiredHigh, closeTaken}
 use Rattle.rules.specs.Rules.{Rules, Moment}
@@ -32,7 +32,7 @@ use Rattle.calls.specs.Listing.{kept, closeLow, closeHigh, newLow, newHigh, new
 use Rattle.calls.specs.Answers.{numberAt, afterAt}
 use Rattle.history.specs.Claim.{emptyRegister, finalAt, numbersAt}
 use Rattle.history.proofs.Written.{Written, written-number, written-after, written-body}
-use Rattle.history.proofs.Lasting.{live-e}
+use Rattle.calendar.proofs.LiveLaws.{live-e}
 use Rattle.worked.specs.Worked.{rowsRead, ofOrigin, Reach, Reaches, LiveAs, relists, Holds}
 use Rattle.worked.proofs.Months.{month-prices, origin-rows}
 use Rattle.worked.proofs.Starts.{startPrices, begun, start-prices, start-taken, start-written}

@@ -30,7 +30,7 @@ use Rattle.calls.specs.Listing.{startBody, accepted}
 use Rattle.calls.specs.Answers.{rowsHeld, count, numberAt, afterAt, added, removed, listedAt}
 use Rattle.calls.proofs.CountLaws.{on, count-append}
 use Rattle.history.specs.Claim.{emptyRegister}
-use Rattle.history.proofs.Lasting.{live-near, live-far}
+use Rattle.calendar.proofs.LiveLaws.{live-near, live-far}
 use Rattle.history.proofs.Written.{Written, empty-written, written-read, written-after, written-body}
 use Rattle.worked.specs.Worked.{rowsRead, ofOrigin, together, Reach, Reaches, LiveAs, CanStart, starts, lists, Holds}
 use Rattle.worked.proofs.Returns.{start-returns}

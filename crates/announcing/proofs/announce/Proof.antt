@@ -13,8 +13,8 @@ use Rattle.calls.specs.Calls.{Call}
 use Rattle.calls.specs.Listing.{number, accepted}
 use Rattle.calls.specs.Answers.{waitingIn, announcedAt}
 use Rattle.calls.proofs.AnswerLaws.{refused-told, own-refused, accepted-told}
-use Rattle.register.proofs.Opens.{Runs, opening-refused, opening-goes, standing-refused, standing-runs}
-use Rattle.announcing.proofs.Says.{fits, room}
+use Rattle.register.proofs.Opens.{RunsWith, opening-refused, opening-goes, standing-refused, standing-runs}
+use Rattle.announcing.proofs.Causes.{fits, room}
 use Rattle.announcing.proofs.announce.Statement.{statement}
 use Rattle.announcing.proofs.announce.Tie as tie
 
@@ -34,7 +34,7 @@ abbrev start : tie.Else2 → tie.Start
 start c = entry (c .before .before .before .before .before .before)
 
 -- a register that runs
-runs : (c : tie.Else2) → Runs (cal (start c)) (bs (start c)) (c .before .before .standing .result)
+runs : (c : tie.Else2) → RunsWith (cal (start c)) (bs (start c)) (c .before .before .standing .result)
 runs c =
     let e = c .before .before .before .before in
     let o = e .before .before in

@@ -13,7 +13,7 @@ use Rattle.layout.specs.Register.{announceCauses}
 use Rattle.layout.specs.Bytes.{momentOf, bodyOf}
 use Rattle.layout.proofs.Running.{Running, runs}
 use Rattle.register.proofs.Well.{first-read, run-first, run-day}
-use Rattle.announcing.proofs.Says.{few-wait, gathered, own-refusal, own-full, own-none}
+use Rattle.announcing.proofs.Causes.{few-wait, gathered, own-refusal, own-full, own-none}
 use Rattle.announcing.proofs.announce_cause.Statement.{statement}
 use Rattle.announcing.proofs.announce_cause.Tie as tie
 

@@ -7,7 +7,7 @@ use borrow.Author.Tests.{ne-eqb, eq-eqb, lt-ltb, le-ltb}
 use Rattle.base.specs.Causes.{cause, firstOf}
 use Rattle.dates.specs.Months.{monthCount}
 use Rattle.calendar.specs.Calendar.{calendarLength, calendarCauses, calendarCause, checkOf}
-use Rattle.calendar.proofs.Laws.{tail-set, months-decide}
+use Rattle.calendar.proofs.CalendarLaws.{tail-set, months-decide}
 use Rattle.calendar.proofs.check.Statement.{statement}
 use Rattle.calendar.proofs.check.Tie as tie
 

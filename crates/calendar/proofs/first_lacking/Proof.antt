@@ -3,7 +3,7 @@
 use mathlib.Core.Path.{sym}
 use native.Mathlib.Omega.{arith}
 use borrow.Author.Needs.{needs}
-use Rattle.calendar.proofs.Laws.{no-zero-byte}
+use Rattle.calendar.proofs.CalendarLaws.{no-zero-byte}
 use Rattle.calendar.proofs.first_lacking.Statement.{statement}
 use Rattle.calendar.proofs.first_lacking.Tie as tie
 

@@ -3,7 +3,7 @@
 use mathlib.Core.Path.{sym, ap, _∙_}
 use native.Mathlib.Omega.{arith}
 use borrow.Author.Needs.{needs}
-use Rattle.dates.proofs.Laws.{month-of-below}
+use Rattle.dates.proofs.MonthLaws.{month-of-below}
 use Rattle.calendar.specs.Calendar.{expiryOf}
 use Rattle.calendar.proofs.LiveLaws.{calendar-dated, live-now, live-next}
 use Rattle.calendar.proofs.first_live.Statement.{statement}

@@ -8,9 +8,9 @@ use borrow.Author.Tests.{not-false}
 use Rattle.base.specs.Search.{firstIn}
 use Rattle.base.proofs.SearchLaws.{first-miss}
 use Rattle.dates.specs.Months.{monthCount}
-use Rattle.dates.proofs.Laws.{third-friday-is, third-friday-rule, third-friday-below}
+use Rattle.dates.proofs.MonthLaws.{third-friday-is, third-friday-rule, third-friday-below}
 use Rattle.calendar.specs.Calendar.{lacks, firstLacking}
-use Rattle.calendar.proofs.Laws.{lacks-not}
+use Rattle.calendar.proofs.CalendarLaws.{lacks-not}
 use Rattle.calendar.proofs.first_quiet.Statement.{statement}
 use Rattle.calendar.proofs.first_quiet.Tie as tie
 

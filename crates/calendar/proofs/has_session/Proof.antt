@@ -3,7 +3,7 @@
 use mathlib.Core.Path.{sym}
 use borrow.Author.Needs.{needs}
 use Rattle.calendar.specs.Calendar.{session}
-use Rattle.calendar.proofs.Laws.{no-session}
+use Rattle.calendar.proofs.CalendarLaws.{no-session}
 use Rattle.calendar.proofs.has_session.Statement.{statement}
 use Rattle.calendar.proofs.has_session.Tie as tie
 

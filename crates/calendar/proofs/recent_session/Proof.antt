@@ -3,7 +3,7 @@
 use Prim.Native.Nat.{ℕ, _+_, _-_, _*_, _/_}
 use native.Mathlib.Omega.{arith}
 use borrow.Author.Needs.{needs}
-use Rattle.calendar.proofs.Laws.{four-bytes}
+use Rattle.calendar.proofs.CalendarLaws.{four-bytes}
 use Rattle.calendar.proofs.recent_session.Statement.{statement}
 use Rattle.calendar.proofs.recent_session.Tie as tie
 

@@ -9,9 +9,10 @@ use borrow.Author.Tests.{not-true, not-false}
 use Rattle.base.specs.Search.{firstIn, someIn}
 use Rattle.base.proofs.SearchLaws.{first-end, first-hit, first-miss}
 use Rattle.dates.specs.Months.{monthCount, thirdFriday}
-use Rattle.dates.proofs.Laws.{third-friday-is, third-friday-rule, third-friday-below}
+use Rattle.dates.proofs.MonthLaws.{third-friday-is, third-friday-rule, third-friday-below}
 use Rattle.calendar.specs.Calendar.{session, lacks, firstLacking}
-use Rattle.calendar.proofs.Laws.{some-first, some-empty, lacks-parts}
+use Rattle.base.proofs.SearchLaws.{some-first, some-empty}
+use Rattle.calendar.proofs.CalendarLaws.{lacks-parts}
 use Rattle.calendar.proofs.scan_months.Statement.{statement}
 use Rattle.calendar.proofs.scan_months.Tie as tie
 

@@ -4,7 +4,7 @@ use mathlib.Core.Path.{sym}
 use Prim.Native.Nat.{_+_, _-_, _*_, _/_, _≤_, _<_}
 use native.Mathlib.Omega.{arith}
 use Rattle.dates.specs.Months.{monthCount, firstDay}
-use Rattle.dates.proofs.Laws.{guessed, first-day-lt, last-day, month-of-is}
+use Rattle.dates.proofs.MonthLaws.{guessed, first-day-lt, last-day, month-of-is}
 use Rattle.dates.proofs.month_of.Statement.{statement}
 use Rattle.dates.proofs.month_of.Tie as tie
 

@@ -10,7 +10,7 @@ use lib.ListN.{length}
 use borrow.Author.Needs.{needs}
 use Rattle.calendar.specs.Calendar.{session}
 use Rattle.holidays.specs.Sessions.{weekday}
-use Rattle.holidays.proofs.Laws.{opened-session, none-yet, grown, stayed}
+use Rattle.holidays.proofs.SessionLaws.{opened-session, none-yet, grown, stayed}
 use Rattle.holidays.proofs.open_weekdays.Statement.{statement}
 use Rattle.holidays.proofs.open_weekdays.Tie as tie
 

@@ -3,7 +3,7 @@
 use mathlib.Core.Path.{sym, _∙_}
 use borrow.Author.Needs.{needs}
 use Rattle.base.specs.Causes.{cause}
-use Rattle.listing.proofs.Opens.{late, in-time}
+use Rattle.listing.proofs.Causes.{late, in-time}
 use Rattle.listing.proofs.listing_cause.Statement.{statement}
 use Rattle.listing.proofs.listing_cause.Tie as tie
 

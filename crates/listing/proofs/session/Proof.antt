@@ -14,9 +14,9 @@ use Rattle.calls.specs.Calls.{Call}
 use Rattle.calls.specs.Listing.{number, accepted}
 use Rattle.calls.proofs.AnswerLaws.{refused-listed, own-refused, accepted-listed}
 use Rattle.register.proofs.Well.{run-day}
-use Rattle.register.proofs.Opens.{Runs, opening-refused, opening-goes, standing-refused, standing-runs}
+use Rattle.register.proofs.Opens.{RunsWith, opening-refused, opening-goes, standing-refused, standing-runs}
 use Rattle.listing.specs.Writing.{Taken}
-use Rattle.listing.proofs.Opens.{session-taken}
+use Rattle.listing.proofs.Causes.{session-taken}
 use Rattle.listing.proofs.Starts.{day-in}
 use Rattle.listing.proofs.session.Statement.{statement}
 use Rattle.listing.proofs.session.Tie as tie
@@ -37,7 +37,7 @@ abbrev start : tie.Else2 → tie.Start
 start c = entry (c .before .before .before .before .before .before)
 
 -- a register that runs
-runs : (c : tie.Else2) → Runs (cal (start c)) (bs (start c)) (c .before .before .standing .result)
+runs : (c : tie.Else2) → RunsWith (cal (start c)) (bs (start c)) (c .before .before .standing .result)
 runs c =
     let e = c .before .before .before .before in
     let o = e .before .before in

@@ -5,7 +5,7 @@ use native.Mathlib.Omega.{arith}
 use borrow.Author.Needs.{needs}
 use Rattle.calendar.specs.Calendar.{expiryOf}
 use Rattle.calendar.specs.Live.{firstLive}
-use Rattle.calendar.proofs.Laws.{expiry-below}
+use Rattle.calendar.proofs.CalendarLaws.{expiry-below}
 use Rattle.calendar.proofs.LiveLaws.{live-past}
 use Rattle.rules.specs.Rulebook.{moved, rules}
 use Rattle.rules.proofs.RulebookLaws.{first-is}
@@ -14,7 +14,7 @@ use Rattle.layout.specs.Bytes.{momentOf, bodyOf}
 use Rattle.calls.specs.Calls.{session}
 use Rattle.calls.specs.Listing.{number}
 use Rattle.listing.specs.Writing.{listingCause}
-use Rattle.listing.proofs.Opens.{late, no-session, session-goes}
+use Rattle.listing.proofs.Causes.{late, no-session, session-goes}
 use Rattle.listing.proofs.session_cause.Statement.{statement}
 use Rattle.listing.proofs.session_cause.Tie as tie
 

@@ -8,7 +8,7 @@ use Rattle.base.proofs.Tests.{and-i, and-no}
 use Rattle.dates.specs.Months.{dayCount}
 use Rattle.rules.specs.Rulebook.{begun}
 use Rattle.rules.proofs.RulebookLaws.{first-is}
-use Rattle.listing.proofs.Opens.{no-start, start-goes}
+use Rattle.listing.proofs.Causes.{no-start, start-goes}
 use Rattle.listing.proofs.start_cause.Statement.{statement}
 use Rattle.listing.proofs.start_cause.Tie as tie
 

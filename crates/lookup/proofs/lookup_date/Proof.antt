@@ -3,7 +3,7 @@
 use native.Mathlib.Omega.{arith}
 use borrow.Author.Needs.{needs}
 use borrow.Author.Tests.{lt-ltb, le-ltb}
-use Rattle.dates.proofs.Laws.{month-of-below, in-month}
+use Rattle.dates.proofs.MonthLaws.{month-of-below, in-month}
 use Rattle.lookup.specs.Lookup.{dateOf}
 use Rattle.lookup.proofs.lookup_date.Statement.{statement}
 use Rattle.lookup.proofs.lookup_date.Tie as tie

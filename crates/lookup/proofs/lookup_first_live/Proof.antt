@@ -3,7 +3,7 @@
 use native.Mathlib.Omega.{arith}
 use borrow.Author.Needs.{needs}
 use borrow.Author.Tests.{eq-eqb, ne-eqb, lt-ltb, le-ltb}
-use Rattle.lookup.proofs.Laws.{check-tells}
+use Rattle.lookup.proofs.LookupLaws.{check-tells}
 use Rattle.lookup.proofs.lookup_first_live.Statement.{statement}
 use Rattle.lookup.proofs.lookup_first_live.Tie as tie
 

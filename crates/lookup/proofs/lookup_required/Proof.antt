@@ -4,7 +4,7 @@ use mathlib.Core.Path.{sym, _∙_}
 use borrow.Author.Needs.{needs}
 use borrow.Author.Tests.{le-leb, lt-leb}
 use Rattle.lookup.specs.Lookup.{requiredAt}
-use Rattle.lookup.proofs.Laws.{close-bounds}
+use Rattle.lookup.proofs.LookupLaws.{close-bounds}
 use Rattle.lookup.proofs.lookup_required.Statement.{statement}
 use Rattle.lookup.proofs.lookup_required.Tie as tie
 

@@ -2,20 +2,20 @@
 -- Assumes nothing.
 use native.Mathlib.Omega.{arith}
 use borrow.Author.Tests.{eq-eqb, ne-eqb}
-use Rattle.lookup.specs.Lookup.{tierAt}
+use Rattle.lookup.specs.Lookup.{tierNumbered}
 use Rattle.lookup.proofs.tier_at.Statement.{statement}
 use Rattle.lookup.proofs.tier_at.Tie as tie
 
 returns : tie.Need-returns
-unfolding tierAt
+unfolding tierNumbered
 returns c = rw (eq-eqb (c .before .args .tier) 0 (omega arith))
 
 returns-2 : tie.Need-returns-2
-unfolding tierAt
+unfolding tierNumbered
 returns-2 c = let tier = c .before .before .args .tier in rw (ne-eqb tier 0 (λ e. omega arith), eq-eqb tier 1 (omega arith))
 
 returns-3 : tie.Need-returns-3
-unfolding tierAt
+unfolding tierNumbered
 returns-3 c = let tier = c .before .before .args .tier in rw (ne-eqb tier 0 (λ e. omega arith), ne-eqb tier 1 (λ e. omega arith))
 
 pub tier-at-spec : {M : Type 1} → statement M

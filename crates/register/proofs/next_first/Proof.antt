@@ -4,7 +4,7 @@ use mathlib.Core.Path.{_≡_, sym, _∙_}
 use borrow.Author.Needs.{needs}
 use Rattle.calendar.specs.Calendar.{expiryOf}
 use Rattle.calendar.specs.Live.{firstLive}
-use Rattle.calendar.proofs.Laws.{expiry-below}
+use Rattle.calendar.proofs.CalendarLaws.{expiry-below}
 use Rattle.calendar.proofs.LiveLaws.{live-past}
 use Rattle.rules.specs.Rules.{next}
 use Rattle.rules.specs.Rulebook.{moved, firstAt, rules}

@@ -10,7 +10,7 @@ use Rattle.rules.specs.Rulebook.{firstAt, rules}
 use Rattle.layout.specs.Bytes.{momentOf, bodyOf}
 use Rattle.calls.specs.RowsCall.{rowsCause}
 use Rattle.register.proofs.Well.{first-read, run-first, run-day, run-held}
-use Rattle.register.proofs.Opens.{Runs, opening-refused, opening-goes, standing-refused, standing-runs}
+use Rattle.register.proofs.Opens.{RunsWith, opening-refused, opening-goes, standing-refused, standing-runs}
 use Rattle.rows.proofs.MonthRows.{spans-order, rows-refused, rows-placed}
 use Rattle.rows.proofs.rows_place.Statement.{statement}
 use Rattle.rows.proofs.rows_place.Tie as tie
@@ -28,7 +28,7 @@ abbrev bs : tie.Start → List ℕ
 bs s = s .args .register .now
 
 -- a register that runs
-runs : (c : tie.Else2) → Runs (cal (start c)) (bs (start c)) (c .before .before .standing .result)
+runs : (c : tie.Else2) → RunsWith (cal (start c)) (bs (start c)) (c .before .before .standing .result)
 runs c =
     let e = c .before .before .before in
     let o = e .before .before in

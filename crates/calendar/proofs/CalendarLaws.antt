@@ -9,15 +9,15 @@ use native.Mathlib.Omega.{arith}
 use lib.Dec.{eqb, ltb}
 use lib.ListN.{length, getD, List·getD-eq-default}
 use lib.Pow.{shr-shr}
-use borrow.Author.Tests.{lt-ltb, le-ltb, ltb-true, ltb-false, eq-eqb, ne-eqb, eqb-false, not-false}
+use borrow.Author.Tests.{lt-ltb, ltb-true, ltb-false, eq-eqb, ne-eqb, eqb-false, not-false}
 use Rattle.base.specs.Search.{firstIn, someIn}
 use Rattle.base.specs.Lists.{leastOf}
 use Rattle.base.specs.Causes.{cause, firstOf}
-use Rattle.base.proofs.Tests.{byBool, byLe, clash, or-l, or-r}
-use Rattle.base.proofs.SearchLaws.{first-end, first-miss, first-skip, first-low, first-before, first-found, last-le, last-ge, some-at, some-wider, last-found}
+use Rattle.base.proofs.Tests.{byLe, clash}
+use Rattle.base.proofs.SearchLaws.{first-end, first-skip, first-low, first-before, first-found, last-le, last-ge, some-wider, last-found, some-split}
 use Rattle.base.proofs.CauseLaws.{none-of, not-cause, passed}
 use Rattle.dates.specs.Months.{monthCount, dayCount, firstDay, thirdFriday}
-use Rattle.dates.proofs.Laws.{third-friday-rule, third-friday-below}
+use Rattle.dates.proofs.MonthLaws.{third-friday-rule, third-friday-below}
 use Rattle.calendar.specs.Calendar.{calendarLength, session, tailSet, lacks, firstLacking, calendarCauses, calendarCause, Passes, expiryOf, nextSession}
 use Rattle.base.proofs.ListLaws.{least-at}
 use Rattle.calendar.proofs.Bits.{word, word-sessions}
@@ -51,26 +51,6 @@ unfolding tailSet session
 tail-clear cal u =
     let b = getD cal 4565 0 in
     rw (ne-eqb (b / 32 % 2) 1 (omega arith), ne-eqb (b / 64 % 2) 1 (omega arith), ne-eqb (b / 128 % 2) 1 (omega arith))
-
--- ---- a stretch in parts: cut at b, and by its first number
-or-none : (x y : Bool) → y ≡ false → x ≡ (x || y)
-or-none true y h = refl
-or-none false y h = sym h
-
-some-split : (p : ℕ → Bool) (a b c : ℕ) → a ≤ b → b ≤ c → someIn p a c ≡ (someIn p b c || someIn p a b)
-some-split p a b c h g =
-    byLe b (firstIn p a b)
-    (λ l. rw (first-skip p a b c h g (λ j x y. first-before p a b j x (omega arith))) (or-none _ _ (le-ltb (firstIn p a b) b l)))
-    (λ l. let s = lt-ltb (firstIn p a b) b l in some-wider p a b a c (omega arith) g s ∙ sym (or-r (someIn p b c) _ s))
-
-pub some-first : (p : ℕ → Bool) (a b : ℕ) → a < b → someIn p a b ≡ (p a || someIn p (a + 1) b)
-some-first p a b h =
-    byBool (p a)
-    (λ t. some-at p a b a (omega arith) h t ∙ sym (or-l _ _ t))
-    (λ f. rw (first-miss p a b h f, f))
-
-pub some-empty : (p : ℕ → Bool) (a b : ℕ) → b ≤ a → someIn p a b ≡ false
-some-empty p a b h = le-ltb (firstIn p a b) b (omega (arith, first-low p a b))
 
 -- ---- a month's session
 -- a month has it where a stretch of its days up to the third Friday has a session

@@ -13,11 +13,11 @@ use Rattle.base.specs.Causes.{cause, firstOf}
 use Rattle.base.proofs.Tests.{byLe}
 use Rattle.base.proofs.SearchLaws.{first-hit, last-hit}
 use Rattle.dates.specs.Months.{monthCount, dayCount, firstDay, thirdFriday}
-use Rattle.dates.proofs.Laws.{third-friday-before, third-friday-below, month-of-is}
+use Rattle.dates.proofs.MonthLaws.{third-friday-before, third-friday-below, month-of-is}
 use Rattle.calendar.specs.Calendar.{Passes, session, expiryOf, nextSession}
 use Rattle.calendar.specs.Live.{firstLive}
-use Rattle.calendar.proofs.Laws.{no-zero-byte, months-decide}
+use Rattle.calendar.proofs.CalendarLaws.{no-zero-byte, months-decide}
 use Rattle.calendar.proofs.LiveLaws.{calendar-dated, live-now, live-next}
 
 -- ---- some bytes with all eight bits, and a last one with five
 unfoldable pub daysOf : ℕ → List ℕ
