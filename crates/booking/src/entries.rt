@@ -5,12 +5,12 @@ use files::Tail;
 
 // Whether this is the announcement that was taken in last.
 fn waits_last(register: &[u8], month: u32, price: u32) -> bool {
-    let waiting = text::halfword(register, 0) / 256 % 256;
+    let waiting = reading::waiting(register);
     if waiting == 0 {
         return false;
     }
-    let at = (4 + 4 * waiting) as usize;
-    text::halfword(register, at) == month && text::halfword(register, at + 2) == price
+    let last = reading::announcement_at(register, waiting - 1);
+    last.month == month && last.price == price
 }
 
 // Whether the register stands where the journal's last line left it. A refused call leaves no trace to look for.
@@ -26,7 +26,7 @@ fn stands(register: &[u8], line: &[u8]) -> bool {
     if kinds[0] == calls::ANNOUNCE {
         return waits_last(register, xs[0], ys[0]);
     }
-    text::halfword(register, 2) == xs[0]
+    reading::day(register) == xs[0]
 }
 
 // Where the last line of whole lines begins.

@@ -8,6 +8,7 @@ use calls::START;
 use entries::record;
 use files::Loaded;
 use libc::STDOUT_FILENO;
+use report::Totals;
 use terminal::DONE;
 use terminal::TROUBLE;
 use terminal::refuse;
@@ -21,14 +22,24 @@ pub struct Call {
     pub y: u32,
 }
 
+// The values beside the number of an accepted start or session.
+fn totals_of(answer: Answer) -> Totals {
+    Totals {
+        added: answer.first as u32,
+        removed: answer.second as u32,
+        rows: answer.third as u32,
+    }
+}
+
 // What an accepted call did.
-fn tell(call: Call, calendar: &[u8], before: &[u8], after: &[u8]) -> i32 {
+fn tell(call: Call, answer: Answer, calendar: &[u8], before: &[u8], after: &[u8]) -> i32 {
     let mut out = io::buffer();
     if call.kind == ANNOUNCE {
-        let end = report::announced(&mut out, 0, calendar, after, call.x, call.y);
+        let waiting = answer.first as u32;
+        let end = report::announced(&mut out, 0, calendar, after, call.x, call.y, waiting);
         return say(STDOUT_FILENO, &out, end, DONE);
     }
-    let end = report::changes(&mut out, 0, calendar, before, after);
+    let end = report::changes(&mut out, 0, calendar, before, after, totals_of(answer));
     say(STDOUT_FILENO, &out, end, DONE)
 }
 
@@ -54,7 +65,7 @@ fn carry_out(
     before: &[u8],
     after: &[u8],
 ) -> bool {
-    if !files::fill(fd, beside, after) {
+    if !files::save(fd, beside, after) {
         return false;
     }
     if !record(before, call, answer) {
@@ -101,7 +112,7 @@ fn call_locked(fd: i32, call: Call, calendar: &[u8], path: &[u8], beside: &[u8])
         return turn_down(fd, call, answer, beside, calendar, &before);
     }
     if carry_out(fd, call, answer, path, beside, &before, &register) {
-        return tell(call, calendar, &before, &register);
+        return tell(call, answer, calendar, &before, &register);
     }
     TROUBLE
 }
@@ -163,9 +174,10 @@ fn foresee(call: Call, calendar: &[u8], before: &[u8], after: &mut [u8]) -> i32 
             call.y,
         );
     }
-    let mut out = space::answer();
-    let at = report::changes(&mut out, 0, calendar, before, after);
-    let end = report::added(&mut out, at, calendar, after);
+    let mut out = space::output();
+    let totals = totals_of(answer);
+    let at = report::changes(&mut out, 0, calendar, before, after, totals);
+    let end = report::added(&mut out, at, after, totals.added);
     say(STDOUT_FILENO, &out, end, DONE)
 }
 

@@ -4,6 +4,7 @@ use help::AUDIT;
 use journal::Calls;
 use libc::STDERR_FILENO;
 use libc::STDOUT_FILENO;
+use replaying::Outcome;
 use terminal::DONE;
 use terminal::REFUSED;
 use terminal::TROUBLE;
@@ -55,11 +56,23 @@ fn run_calls(
     register: &mut [u8],
 ) -> i32 {
     let mut numbers = space::numbers();
-    replay(calendar, kinds, xs, ys, register, &mut numbers);
-    compare(text, &numbers, told, kinds.len())
+    let outcome = replay(calendar, kinds, xs, ys, register, &mut numbers);
+    match outcome {
+        Outcome::Done => compare(text, &numbers, told, kinds.len()),
+        Outcome::NotEmpty => not_run(b"it was not run: the register to begin with is not empty"),
+        Outcome::Malformed => not_run(
+            b"it was not run: a call lacks an argument or the room for its number, or is none of the three",
+        ),
+    }
 }
 
-// `replaying::replay` with as many numbers as there are calls. Its contract is the closing property of demand 3.
+fn not_run(why: &[u8]) -> i32 {
+    files::complain(b"the journal", why);
+    TROUBLE
+}
+
+// `replaying::replay` with as many numbers as there are calls; more calls than that are malformed, as lists of different
+// lengths are. Its contract is the closing property of demand 3.
 fn replay(
     calendar: &[u8],
     kinds: &[u8],
@@ -67,11 +80,12 @@ fn replay(
     ys: &[u32],
     register: &mut [u8],
     numbers: &mut [u16],
-) {
+) -> Outcome {
     let n = kinds.len();
-    if n <= numbers.len() {
-        replaying::replay(calendar, kinds, xs, ys, register, &mut numbers[0..n]);
+    if numbers.len() < n {
+        return Outcome::Malformed;
     }
+    replaying::replay(calendar, kinds, xs, ys, register, &mut numbers[0..n])
 }
 
 // The register that the text of a journal gives.

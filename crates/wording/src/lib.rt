@@ -31,9 +31,9 @@ pub fn refusal(
     let next = lookup::lookup_next_session(calendar, stands);
     if number <= 17 {
         let length = if number <= 13 {
-            opening::length(calendar)
+            text::narrowed(calendar.len())
         } else {
-            opening::length(register)
+            text::narrowed(register.len())
         };
         return opening::refusal(out, at, number, length, value, stands, next);
     }

@@ -15,7 +15,7 @@ fn month_refused(
     stands: u32,
     month: u32,
 ) -> usize {
-    let first = reading::first_live(calendar, register);
+    let first = reading::first_live(register);
     let expiry = lookup::lookup_expiry(calendar, first);
     let letter = if number == 26 {
         b'l'
@@ -35,7 +35,7 @@ fn month_refused(
         letter,
         [month, stands, expiry, 0, 0, 0],
     );
-    let at = parts::live_months(out, at, calendar, register);
+    let at = parts::live_months(out, at, register);
     if number == 26 {
         return put(out, at, b"\n  ask for one of these\n");
     }
@@ -149,7 +149,7 @@ pub fn refusal(
         22 | 26 => month_refused(out, at, calendar, register, number, stands, month),
         23 => off_grid(out, at, calendar, next, month, price),
         _ => {
-            let rows = rows::rows(calendar, register, month);
+            let rows = reading::rows_of(register, month);
             price_refused(out, at, rows, number, next, month, price)
         }
     }
