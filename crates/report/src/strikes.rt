@@ -22,11 +22,11 @@ pub fn rows(out: &mut [u8], at: usize, calendar: &[u8], register: &[u8], month: 
         b" from %4 to %4\nprice  first day   call         put          origin\n",
         [ladder.low, ladder.high, 0, 0, 0, 0],
     );
-    lines(out, at, reading::rows_of(register, month), ladder.rows)
+    row_lines(out, at, reading::rows_of(register, month), ladder.rows)
 }
 
 // The first n rows.
-fn lines(out: &mut [u8], at: usize, rows: &[u8], n: u32) -> usize {
+fn row_lines(out: &mut [u8], at: usize, rows: &[u8], n: u32) -> usize {
     let mut at = at;
     let mut i: u32 = 0;
     while i < n {
