@@ -42,18 +42,18 @@ pub fn journal() -> [u8; 4194304]
     [0; 4194304]
 }
 
-// The kinds of a journal's calls: a century of sessions and many announcements.
-pub fn kinds() -> [u8; 65536]
+// A byte for each of a journal's calls, its kind or the number of its pairs: a century of sessions and many announcements.
+pub fn call_bytes() -> [u8; 65536]
     ensures { λ r. ⌜ 65536 ≡ length r ⌝ }
 {
     [0; 65536]
 }
 
-// One of their two arguments.
-pub fn values() -> [u32; 65536]
+// Their pairs.
+pub fn pairs() -> [[u32; 2]; 65536]
     ensures { λ r. ⌜ 65536 ≡ length r ⌝ }
 {
-    [0; 65536]
+    [[0; 2]; 65536]
 }
 
 // Their numbers.
