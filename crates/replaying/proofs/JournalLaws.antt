@@ -18,11 +18,10 @@ use Rattle.rules.specs.Rulebook.{rules}
 use Rattle.calls.specs.Calls.{Call, callOf, isCall}
 use Rattle.calls.specs.Answers.{numberAt, afterAt, answerAt, calledAt, leftAt}
 use Rattle.calls.specs.declared.Answer.{Answer}
-use Rattle.calls.specs.declared.Called.{Called}
 use Rattle.calls.specs.declared.Called.the-variants.{Answered, NoCall}
 use Rattle.calling.proofs.Answers.{answer-number}
 use Rattle.history.specs.Claim.{finalAt, numbersAt}
-use Rattle.replaying.specs.Journal.{before, journal, allCalls, wellKept}
+use Rattle.replaying.specs.Journal.{callThen, journal, allCalls}
 
 module _ (kinds counts : List ℕ) (pool : List (List ℕ)) where
   -- the calls from a place of the kinds and a place of the pool on, and whether each is one
@@ -42,7 +41,7 @@ module _ (kinds counts : List ℕ) (pool : List (List ℕ)) where
     unfolding allCalls
     fit-step = rw (add-sub-cancel-left at n, e, drop-cons kinds i 0 l, drop-cons counts i 0 m, drop-drop (getD counts i 0) at pool, add-one)
 
-    calls-more : callsFrom i at ≡ before (callAt i at n) (callsFrom (i + 1) (at + n))
+    calls-more : callsFrom i at ≡ callThen (callAt i at n) (callsFrom (i + 1) (at + n))
     unfolding journal
     calls-more = rw (add-sub-cancel-left at n, e, drop-cons kinds i 0 l, drop-cons counts i 0 m, drop-drop (getD counts i 0) at pool, add-one)
 
@@ -113,10 +112,10 @@ module _ (kinds counts : List ℕ) (pool : List (List ℕ)) (from : List ℕ) wh
       → Ran calendar register after (callAt kinds counts pool i at n) number
       → Behind (rules calendar) kinds counts pool from i at register numbers
       → Behind (rules calendar) kinds counts pool from (i + 1) (at + n) after (set numbers i number)
-  unfolding before finalAt numbersAt
+  unfolding callThen finalAt numbersAt
   behind-more calendar i at n register numbers after number l m p e r h =
-      let more : callsFrom kinds counts pool i at ≡ r .call ∷ callsFrom kinds counts pool (i + 1) (at + n) =
-      calls-more kinds counts pool i at n l m e ∙ rw (r .is) in
+      let rest : List Call = callsFrom kinds counts pool (i + 1) (at + n) in
+      let more : callsFrom kinds counts pool i at ≡ r .call ∷ rest = calls-more kinds counts pool i at n l m e ∙ rw (r .is) in
       record {
         fit = fits-rest kinds counts pool i at n l m e (h .fit);
         register-is = h .register-is ∙ rw (more, r .after-is);

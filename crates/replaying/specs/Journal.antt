@@ -15,16 +15,17 @@ use Rattle.history.specs.Claim.{finalAt, numbersAt, Claim}
 use Rattle.replaying.specs.declared.Outcome.{Outcome}
 use Rattle.replaying.specs.declared.Outcome.the-variants.{Done, NotEmpty, Malformed}
 
-unfoldable pub before : Option Call → List Call → List Call
-before none ks = ks
-before (some k) ks = k ∷ ks
+-- a call, where it is one, and those behind it
+unfoldable pub callThen : Option Call → List Call → List Call
+callThen none ks = ks
+callThen (some k) ks = k ∷ ks
 
 -- the calls of a journal: the kind of each, how many pairs it has, and one pool of pairs, in which those of a call stand behind
--- those of the call before
+-- those of the call before. What is no call is left out; a journal that is well kept has none
 unfoldable pub journal : List ℕ → List ℕ → List (List ℕ) → List Call
 journal [] counts pool = []
 journal (k ∷ kinds) [] pool = []
-journal (k ∷ kinds) (c ∷ counts) pool = before (callOf k (take c pool)) (journal kinds counts (drop c pool))
+journal (k ∷ kinds) (c ∷ counts) pool = callThen (callOf k (take c pool)) (journal kinds counts (drop c pool))
 
 -- each kind with its pairs is a call, and no pair is left over
 unfoldable pub allCalls : List ℕ → List ℕ → List (List ℕ) → Bool

@@ -1,7 +1,6 @@
 -- `calling::call_by_kind` meets its contract: the kind decides the call.
 -- Assumes nothing.
 use mathlib.Core.Path.{sym, _∙_}
-use native.Mathlib.Omega.{arith}
 use borrow.Author.Needs.{needs}
 use borrow.Author.Tests.{not-true, not-false}
 use Rattle.calling.proofs.CallLaws.{fits-kind, fits-one, is-start, is-session, is-announce}

@@ -1,6 +1,5 @@
 -- `replaying::well_kept` meets its contract: one test after the other.
 -- Assumes nothing.
-use borrow.Author.Needs.{needs}
 use borrow.Author.Tests.{eq-eqb, ne-eqb}
 use Rattle.replaying.specs.Journal.{wellKept}
 use Rattle.replaying.proofs.well_kept.Statement.{statement}
