@@ -215,6 +215,26 @@ rm register.new
 cp register other
 poke other 142 3
 expect 1 'row 1:' audit calendar journal other
+# Byte by byte: the numbers of the head, a row's origin, and bytes without use; each becomes 9.
+while read -r place pattern; do
+    cp register other
+    poke other "$place" 11
+    expect 1 "$pattern\$" audit calendar journal other
+done <<'END'
+0 status, 0 empty, 1 running: the journal gives 1, the register has 9
+1 announcements waiting: the journal gives 0, the register has 9
+2 day: the journal gives 2026-11-17, the register has 2026-08-29
+4 rows: the journal gives 119, the register has 9
+6 byte 6: the journal gives 0, the register has 9
+8 byte 8: the journal gives 0, the register has 9
+142 the register has  2026-11 2025, first day 2026-11-16, origin 9
+143 byte 143: the journal gives 0, the register has 9
+11263 byte 11263: the journal gives 0, the register has 9
+END
+head -n 2 journal >changed
+expect 0 '' replay calendar changed other
+poke other 10 11
+expect 1 'the register has  2026-12 3081$' audit calendar changed other
 expect 0 '' start calendar again 2026-11-17 2413.37
 expect 1 'rows: the journal gives 119, the register has 94' audit calendar journal again
 rm again
@@ -236,6 +256,14 @@ expect 0 '' replay calendar changed other
 same other again
 printf '# by hand\n\nstart 9816 241337\n  announce 2026-12 3100 # called in\n' >changed
 expect 0 '' replay calendar changed again
+# As many calls as fit are all run, and one more is too many.
+seq 65535 | sed 's/.*/announce 2026-12 3100/' >changed
+echo 'announce 2026-12 3100 = 17' >>changed
+expect 0 '' replay calendar changed again
+sed -i '$s/17/0/' changed
+expect 1 'line 65536: the journal says 0, the replay says 17' replay calendar changed again
+echo 'announce 2026-12 3100' >>changed
+trouble 'one call more than fits' replay calendar changed again
 rm changed again other
 
 # A disk that is full: no file may grow past 8 KiB, and the signal for that is ignored.

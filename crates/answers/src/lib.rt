@@ -1,5 +1,6 @@
 // Commands that ask a register, a calendar or a name and answer: check, rows, show, picture, name, why; and the calendar made
 // from its list.
+use base::causes;
 use dates::DAYS;
 use files::Loaded;
 use help::PICTURE;
@@ -30,11 +31,10 @@ fn check_bytes(calendar: &[u8]) -> i32 {
     let mut out = io::buffer();
     let checked = calendar::check(calendar);
     if checked.number != 0 {
-        let length = (calendar.len() % 100000) as u32;
         let end = wording::calendar_refusal(
             &mut out,
             0,
-            length,
+            text::narrowed(calendar.len()),
             checked.number,
             checked.month as u32,
         );
@@ -60,7 +60,7 @@ fn make_of(list: &[u8]) -> i32 {
     let made = holidays::make(list, &mut calendar);
     if let Made::Refused(line, reason) = made {
         let mut out = io::buffer();
-        let end = holidays::refused(&mut out, 0, list, line, reason);
+        let end = holidays::complaint(&mut out, 0, list, line, reason);
         return say(STDERR_FILENO, &out, end, TROUBLE);
     }
     if !terminal::replace(3, &calendar) {
@@ -80,21 +80,15 @@ pub fn make_calendar() -> i32 {
 // The rows of the six live months, in their order.
 fn rows_of_all(out: &mut [u8], calendar: &[u8], register: &[u8]) -> usize {
     let mut at: usize = 0;
-    let first = reading::first_live(calendar, register);
     for place in 0..6 {
-        at = report::rows(
-            out,
-            at,
-            calendar,
-            register,
-            lookup::lookup_live_month(first, place),
-        );
+        let month = reading::live_month(register, place);
+        at = report::rows(out, at, calendar, register, month);
     }
     at
 }
 
 fn rows(calendar: &[u8], register: &[u8]) -> i32 {
-    let mut out = space::answer();
+    let mut out = space::output();
     if os::arg_count() == 4 {
         let end = rows_of_all(&mut out, calendar, register);
         return say(STDOUT_FILENO, &out, end, DONE);
@@ -102,16 +96,15 @@ fn rows(calendar: &[u8], register: &[u8]) -> i32 {
     let Parsed::Number(month) = terminal::number(4, terminal::MONTH) else {
         return TROUBLE;
     };
-    let number = rows::rows_number(calendar, register, month);
-    if number != 0 {
-        return refuse(calendar, register, number, 0, month, 0);
-    }
     let end = report::rows(&mut out, 0, calendar, register, month);
+    if end == 0 {
+        return refuse(calendar, register, causes::ROWS_MONTH, 0, month, 0);
+    }
     say(STDOUT_FILENO, &out, end, DONE)
 }
 
 fn draw(calendar: &[u8], register: &[u8]) -> i32 {
-    let mut out = space::answer();
+    let mut out = space::output();
     let end = picture::svg(&mut out, 0, calendar, register);
     if terminal::replace(4, text::part(&out, 0, end)) {
         return DONE;
@@ -162,8 +155,7 @@ fn show(calendar: &[u8], register: &[u8]) -> i32 {
 
 // A question about a register; one that cannot be used is refused.
 pub fn ask(command: u32, calendar: &[u8], register: &[u8]) -> i32 {
-    let first = reading::first_live(calendar, register);
-    let number = rows::rows_number(calendar, register, first);
+    let number = reading::cause(calendar, register);
     if number != 0 {
         let checked = calendar::check(calendar);
         return refuse(calendar, register, number, checked.month, 0, 0);

@@ -1,11 +1,10 @@
 // Holding a register against what its journal gives.
-use layout::PLACES;
-use layout::ROWS;
+use layout::MOST_ROWS;
 use phrases::fill;
 
-// The first byte from a place on in which two registers differ, or the end of the first.
-fn first_byte(a: &[u8], b: &[u8], from: usize) -> usize {
-    let mut i = from;
+// The first byte in which two registers differ, or the end of the first.
+fn first_byte(a: &[u8], b: &[u8]) -> usize {
+    let mut i: usize = 0;
     while i < a.len() {
         if b.len() <= i {
             return i;
@@ -18,16 +17,17 @@ fn first_byte(a: &[u8], b: &[u8], from: usize) -> usize {
     i
 }
 
-fn wide(byte: u8) -> u32 {
-    byte as u32
-}
-
-// A byte's number; 0 past the end.
-fn byte(bytes: &[u8], at: usize) -> u32 {
-    if at < bytes.len() {
-        return wide(bytes[at]);
+// The first row, counted from 0, in which two registers differ; where there is none the number of all.
+fn first_row(a: &[u8], b: &[u8]) -> u32 {
+    let end = MOST_ROWS as u32;
+    let mut n: u32 = 0;
+    while n < end {
+        if !text::same(reading::row_place(a, n), reading::row_place(b, n)) {
+            return n;
+        }
+        n += 1;
     }
-    0
+    n
 }
 
 // The last of the four fields.
@@ -36,10 +36,10 @@ const ROW_COUNT: u32 = 4;
 // Status, day, announcements waiting or number of rows, counted from 1 in that order.
 fn field(register: &[u8], which: u32) -> u32 {
     match which {
-        1 => byte(register, 0),
-        2 => text::halfword(register, 2),
-        3 => byte(register, 1),
-        _ => text::halfword(register, 4),
+        1 => reading::status(register),
+        2 => reading::day(register),
+        3 => reading::waiting(register),
+        _ => reading::row_count(register),
     }
 }
 
@@ -57,7 +57,7 @@ fn first_field(given: &[u8], register: &[u8]) -> u32 {
 
 // What differs: the announcement or the row of a number, counted from 0, or what one of the messages of one line says,
 // by the number of its form and a byte's place.
-enum Part {
+enum Differs {
     Announcement(u32),
     Row(u32),
     RowCount,
@@ -65,63 +65,48 @@ enum Part {
 }
 
 // The form for a byte that both registers have, only the first, only the second, or none.
-fn byte_form(given: &[u8], register: &[u8], place: u32) -> Part {
+fn byte_form(given: &[u8], register: &[u8], place: u32) -> Differs {
     if (place as usize) < given.len() {
         let form = if (place as usize) < register.len() {
             5
         } else {
             6
         };
-        return Part::Line(form, place);
+        return Differs::Line(form, place);
     }
     let form = if (place as usize) < register.len() {
         7
     } else {
         8
     };
-    Part::Line(form, place)
+    Differs::Line(form, place)
 }
 
 // What the byte at a place behind the four is a part of.
-fn part_at(given: &[u8], register: &[u8], place: u32) -> Part {
-    if PLACES as u32 <= place {
-        let n = (place - PLACES as u32) / 4;
-        if place < ROWS as u32 {
-            if n < byte(given, 1) {
-                return Part::Announcement(n);
-            }
-        }
+fn at_byte(given: &[u8], register: &[u8], place: u32) -> Differs {
+    let n = reading::announcement_with(place);
+    if n < reading::waiting(given) {
+        return Differs::Announcement(n);
     }
-    if ROWS as u32 <= place {
-        let behind = place - ROWS as u32;
-        let n = behind / 8;
-        if n < text::halfword(given, 4) && behind % 8 < 7 {
-            return Part::Row(n);
-        }
+    let n = reading::row_with(place);
+    if n < reading::row_count(given) && !reading::is_spare(place) {
+        return Differs::Row(n);
     }
     byte_form(given, register, place)
 }
 
-fn small(n: usize) -> u32 {
-    if n <= 4294967295 {
-        n as u32
-    } else {
-        4294967295
-    }
-}
-
-fn first_part(given: &[u8], register: &[u8]) -> Part {
+fn first_difference(given: &[u8], register: &[u8]) -> Differs {
     if text::same(given, register) {
-        return Part::Line(9, 0);
+        return Differs::Line(9, 0);
     }
     let which = first_field(given, register);
     if which == ROW_COUNT {
-        return Part::RowCount;
+        return Differs::RowCount;
     }
     if which < 5 {
-        return Part::Line(which, 0);
+        return Differs::Line(which, 0);
     }
-    part_at(given, register, small(first_byte(given, register, 6)))
+    at_byte(given, register, text::narrowed(first_byte(given, register)))
 }
 
 fn announcement(out: &mut [u8], at: usize, given: &[u8], register: &[u8], n: u32) -> usize {
@@ -146,17 +131,16 @@ fn form_end(length: usize, origin: u32) -> usize {
 }
 
 fn row(out: &mut [u8], at: usize, register: &[u8], n: u32) -> usize {
-    if text::halfword(register, 4) <= n {
+    if reading::row_count(register) <= n {
         return text::put(out, at, b"no row");
     }
-    let row = reading::row_at(text::part(register, ROWS, register.len()), n);
-    let origin = byte(register, ROWS + 8 * ((n % 65536) as usize) + 6);
+    let row = reading::row_at(reading::row_place(register, n), 0);
     let form = b"%m %n, first day %d, origin %n, %o";
     fill(
         out,
         at,
-        text::part(form, 0, form_end(form.len(), origin)),
-        [row.month, row.price, row.first, origin, origin, 0],
+        text::part(form, 0, form_end(form.len(), row.origin)),
+        [row.month, row.price, row.first, row.origin, row.origin, 0],
     )
 }
 
@@ -176,11 +160,7 @@ fn rows(out: &mut [u8], at: usize, given: &[u8], register: &[u8], n: u32) -> usi
 fn row_counts(out: &mut [u8], at: usize, given: &[u8], register: &[u8]) -> usize {
     let at = line(out, at, given, register, ROW_COUNT, 0);
     let at = text::put_byte(out, at, b'\n');
-    let place = small(first_byte(given, register, ROWS));
-    if place < ROWS as u32 {
-        return at;
-    }
-    rows(out, at, given, register, (place - ROWS as u32) / 8)
+    rows(out, at, given, register, first_row(given, register))
 }
 
 // A message of one line.
@@ -212,26 +192,26 @@ fn values_of(given: &[u8], register: &[u8], number: u32, place: u32) -> [u32; 6]
     if number < 5 {
         return [field(given, number), field(register, number), 0, 0, 0, 0];
     }
-    let has = byte(register, place as usize);
+    let has = reading::byte_at(register, place as usize);
     if number == 7 {
         return [place, has, 0, 0, 0, 0];
     }
-    [place, byte(given, place as usize), has, 0, 0, 0]
+    [place, reading::byte_at(given, place as usize), has, 0, 0, 0]
 }
 
-fn told(out: &mut [u8], at: usize, given: &[u8], register: &[u8]) -> usize {
-    let part = first_part(given, register);
-    match part {
-        Part::Announcement(n) => announcement(out, at, given, register, n),
-        Part::Row(n) => rows(out, at, given, register, n),
-        Part::RowCount => row_counts(out, at, given, register),
-        Part::Line(number, place) => line(out, at, given, register, number, place),
+fn describe(out: &mut [u8], at: usize, given: &[u8], register: &[u8]) -> usize {
+    let first = first_difference(given, register);
+    match first {
+        Differs::Announcement(n) => announcement(out, at, given, register, n),
+        Differs::Row(n) => rows(out, at, given, register, n),
+        Differs::RowCount => row_counts(out, at, given, register),
+        Differs::Line(number, place) => line(out, at, given, register, number, place),
     }
 }
 
 // Writes the first thing in which a register differs from what its journal gives: status, day, announcements waiting,
 // number of rows with the first row that differs, an announcement, a row, or a byte that is a part of none of these.
 pub fn difference(out: &mut [u8], at: usize, given: &[u8], register: &[u8]) -> usize {
-    let at = told(out, at, given, register);
+    let at = describe(out, at, given, register);
     text::put_byte(out, at, b'\n')
 }

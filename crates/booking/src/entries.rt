@@ -1,32 +1,31 @@
 // A line for each call in the journal.
-use crate::Call;
 use calls::Answer;
 use files::Tail;
 
 // Whether this is the announcement that was taken in last.
 fn waits_last(register: &[u8], month: u32, price: u32) -> bool {
-    let waiting = text::halfword(register, 0) / 256 % 256;
+    let waiting = reading::waiting(register);
     if waiting == 0 {
         return false;
     }
-    let at = (4 + 4 * waiting) as usize;
-    text::halfword(register, at) == month && text::halfword(register, at + 2) == price
+    let last = reading::announcement_at(register, waiting - 1);
+    last.month == month && last.price == price
 }
 
 // Whether the register stands where the journal's last line left it. A refused call leaves no trace to look for.
 fn stands(register: &[u8], line: &[u8]) -> bool {
     let mut kinds = [0u8; 1];
-    let mut xs = [0u32; 1];
-    let mut ys = [0u32; 1];
+    let mut counts = [0u8; 1];
+    let mut pool = [[0u32; 2]; 1];
     let mut told = [1u16; 1];
-    journal::read(line, &mut kinds, &mut xs, &mut ys, &mut told);
+    journal::read(line, &mut kinds, &mut counts, &mut pool, &mut told);
     if told[0] != 0 {
         return true;
     }
     if kinds[0] == calls::ANNOUNCE {
-        return waits_last(register, xs[0], ys[0]);
+        return waits_last(register, pool[0][0], pool[0][1]);
     }
-    text::halfword(register, 2) == xs[0]
+    reading::day(register) == pool[0][0]
 }
 
 // Where the last line of whole lines begins.
@@ -109,7 +108,7 @@ fn keep_in(path: &[u8], register: &[u8], line: &[u8], is_accepted: bool) -> bool
 }
 
 // Keeps a call in the journal that the arguments name, if they name one.
-pub fn record(register: &[u8], call: Call, answer: Answer) -> bool {
+pub fn record(register: &[u8], kind: u8, pairs: &[[u32; 2]], answer: Answer) -> bool {
     if os::arg_count() != 8 {
         return true;
     }
@@ -119,9 +118,8 @@ pub fn record(register: &[u8], call: Call, answer: Answer) -> bool {
     let end = journal::entry(
         &mut line,
         0,
-        call.kind,
-        call.x,
-        call.y,
+        kind,
+        pairs,
         answer.number as u32,
         answer.first as u32,
         answer.second as u32,

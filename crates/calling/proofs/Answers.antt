@@ -1,14 +1,17 @@
--- A call's answer by its kind, and that it has the call's number.
+-- What a kind and its pairs answer and leave where they are a call, and that the answer has the call's number.
 -- Assumes nothing.
 use mathlib.Core.Path.{_≡_, refl, ap, _∙_}
+use mathlib.Core.Bool.{false, true≢false}
 use mathlib.Core.List.{List}
+use mathlib.Core.Option.{Option, none, some}
 use Prim.Native.Nat.{ℕ}
 use Rattle.rules.specs.Rulebook.{rules}
-use Rattle.calls.specs.Calls.{Call, start, session, announce}
-use Rattle.calls.specs.Answers.{numberAt, afterAt, listedAt, announcedAt, toldAt, ofListed, ofTold, answerAt}
+use Rattle.calls.specs.Calls.{Call, start, session, announce, isCall}
+use Rattle.calls.specs.Answers.{numberAt, afterAt, listedAt, announcedAt, toldAt, ofListed, ofTold, answerAt, calledAt, afterCalled}
 use Rattle.calls.specs.declared.Listed.{Listed}
 use Rattle.calls.specs.declared.Told.{Told}
 use Rattle.calls.specs.declared.Answer.{Answer}
+use Rattle.calls.specs.declared.Called.the-variants.{Answered, NoCall}
 
 pub answer-number : (calendar : List ℕ) (k : Call) (bs : List ℕ) → answerAt calendar k bs .number ≡ numberAt (rules calendar) k bs
 unfolding answerAt listedAt announcedAt toldAt
@@ -16,19 +19,24 @@ answer-number calendar (start d c) bs = refl
 answer-number calendar (session d c) bs = refl
 answer-number calendar (announce m p) bs = refl
 
+pub as-none : (calendar bs : List ℕ) (j : Option Call) → isCall j ≡ false → (NoCall ≡ calledAt calendar j bs) × (bs ≡ afterCalled (rules calendar) j bs)
+unfolding calledAt afterCalled isCall
+as-none calendar bs none h = (refl, refl)
+as-none calendar bs (some k) h = absurd (true≢false h)
+
 -- what the call that a kind gives has answered and left, said of the kind
-module _ (calendar bs after : List ℕ) (x y : ℕ) (j : Call) where
-  pub as-start : (l : Listed) (r : Answer) → j ≡ start x y → l ≡ listedAt calendar (start x y) bs → after ≡ afterAt (rules calendar) (start x y) bs → r ≡ ofListed l
-      → (r ≡ answerAt calendar j bs) × (after ≡ afterAt (rules calendar) j bs)
-  unfolding answerAt
-  as-start l r s a b e = rw s (e ∙ ap ofListed a, b)
+module _ (calendar bs after : List ℕ) (x y : ℕ) (j : Option Call) where
+  pub as-start : (l : Listed) (r : Answer) → j ≡ some (start x y) → l ≡ listedAt calendar (start x y) bs → after ≡ afterAt (rules calendar) (start x y) bs → r ≡ ofListed l
+      → (Answered r ≡ calledAt calendar j bs) × (after ≡ afterCalled (rules calendar) j bs)
+  unfolding answerAt calledAt afterCalled
+  as-start l r s a b e = rw s (ap Answered (e ∙ ap ofListed a), b)
 
-  pub as-session : (l : Listed) (r : Answer) → j ≡ session x y → l ≡ listedAt calendar (session x y) bs → after ≡ afterAt (rules calendar) (session x y) bs → r ≡ ofListed l
-      → (r ≡ answerAt calendar j bs) × (after ≡ afterAt (rules calendar) j bs)
-  unfolding answerAt
-  as-session l r s a b e = rw s (e ∙ ap ofListed a, b)
+  pub as-session : (l : Listed) (r : Answer) → j ≡ some (session x y) → l ≡ listedAt calendar (session x y) bs → after ≡ afterAt (rules calendar) (session x y) bs → r ≡ ofListed l
+      → (Answered r ≡ calledAt calendar j bs) × (after ≡ afterCalled (rules calendar) j bs)
+  unfolding answerAt calledAt afterCalled
+  as-session l r s a b e = rw s (ap Answered (e ∙ ap ofListed a), b)
 
-  pub as-announce : (l : Told) → j ≡ announce x y → l ≡ announcedAt calendar (announce x y) bs → after ≡ afterAt (rules calendar) (announce x y) bs
-      → (ofTold l ≡ answerAt calendar j bs) × (after ≡ afterAt (rules calendar) j bs)
-  unfolding answerAt
-  as-announce l s a b = rw s (ap ofTold a, b)
+  pub as-announce : (l : Told) → j ≡ some (announce x y) → l ≡ announcedAt calendar (announce x y) bs → after ≡ afterAt (rules calendar) (announce x y) bs
+      → (Answered (ofTold l) ≡ calledAt calendar j bs) × (after ≡ afterCalled (rules calendar) j bs)
+  unfolding answerAt calledAt afterCalled
+  as-announce l s a b = rw s (ap Answered (ap ofTold a), b)

@@ -3,6 +3,7 @@
 -- Assumes nothing.
 use mathlib.Core.Bool.{Bool, cond, not}
 use mathlib.Core.List.{List, [], _∷_}
+use mathlib.Core.Option.{Option, none, some}
 use Prim.Native.Nat.{ℕ, suc}
 use lib.Dec.{eqb}
 use lib.ListN.{length}
@@ -19,6 +20,8 @@ use Rattle.calls.specs.Listing.{number, accepted}
 use Rattle.calls.specs.declared.Listed.{Listed}
 use Rattle.calls.specs.declared.Told.{Told}
 use Rattle.calls.specs.declared.Answer.{Answer}
+use Rattle.calls.specs.declared.Called.{Called}
+use Rattle.calls.specs.declared.Called.the-variants.{Answered, NoCall}
 
 -- the rows of a register, and how many of a list pass a test
 unfoldable pub rowsHeld : Reg → List Row
@@ -93,3 +96,13 @@ unfoldable pub answerAt : List ℕ → Call → List ℕ → Answer
 answerAt calendar (start d c) bs = ofListed (listedAt calendar (start d c) bs)
 answerAt calendar (session d c) bs = ofListed (listedAt calendar (session d c) bs)
 answerAt calendar (announce m p) bs = ofTold (announcedAt calendar (announce m p) bs)
+
+-- ---- what a kind and its pairs answer and leave (`callOf`): where they are no call, the answer says so and the register stays
+
+unfoldable pub calledAt : List ℕ → Option Call → List ℕ → Called
+calledAt calendar none bs = NoCall
+calledAt calendar (some k) bs = Answered (answerAt calendar k bs)
+
+unfoldable pub afterCalled : Rules → Option Call → List ℕ → List ℕ
+afterCalled R none bs = bs
+afterCalled R (some k) bs = afterAt R k bs

@@ -40,3 +40,9 @@ pub struct Answer {
     pub second: u16,
     pub third: u16,
 }
+
+// What a kind and its pairs of numbers answer: what their call does, or that they are no call.
+pub enum Called {
+    Answered(Answer),
+    NoCall,
+}

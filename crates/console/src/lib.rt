@@ -1,12 +1,16 @@
 // The console program as a library: `run` does what the program's arguments ask and answers its exit status.
 mod restore;
 
+use help::ANNOUNCE;
+use help::AUDIT;
 use help::CALENDAR;
 use help::CHECK;
 use help::COMMANDS;
 use help::NAME;
 use help::PREVIEW;
 use help::REPLAY;
+use help::SESSION;
+use help::START;
 use libc::STDERR_FILENO;
 use libc::STDOUT_FILENO;
 use terminal::DONE;
@@ -28,13 +32,13 @@ fn with_calendar(command: u32) -> i32 {
     if !terminal::file(2, &mut calendar) {
         return TROUBLE;
     }
-    if command < CALENDAR {
-        return booking::make((command % 3) as u8, &calendar);
+    match command {
+        START => booking::make(calls::START, &calendar),
+        SESSION => booking::make(calls::SESSION, &calendar),
+        ANNOUNCE => booking::make(calls::ANNOUNCE, &calendar),
+        REPLAY | AUDIT => restore::run(command, &calendar),
+        _ => with_register(command, &calendar),
     }
-    if command < REPLAY {
-        return with_register(command, &calendar);
-    }
-    restore::run(command, &calendar)
 }
 
 fn act(command: u32) -> i32 {

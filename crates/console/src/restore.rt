@@ -4,18 +4,19 @@ use help::AUDIT;
 use journal::Calls;
 use libc::STDERR_FILENO;
 use libc::STDOUT_FILENO;
+use replaying::Outcome;
 use terminal::DONE;
 use terminal::REFUSED;
 use terminal::TROUBLE;
 use terminal::refuse;
 use terminal::say;
 
-// The first n numbers, or all where there are fewer.
-fn first_numbers(numbers: &[u32], n: usize) -> &[u32] {
-    if n <= numbers.len() {
-        return &numbers[0..n];
+// The first n pairs, or all where there are fewer.
+fn first_pairs(pool: &[[u32; 2]], n: usize) -> &[[u32; 2]] {
+    if n <= pool.len() {
+        return &pool[0..n];
     }
-    numbers
+    pool
 }
 
 // The number at a place; past the end the one that tells nothing.
@@ -49,51 +50,64 @@ fn run_calls(
     text: &[u8],
     calendar: &[u8],
     kinds: &[u8],
-    xs: &[u32],
-    ys: &[u32],
+    counts: &[u8],
+    pool: &[[u32; 2]],
     told: &[u16],
     register: &mut [u8],
 ) -> i32 {
     let mut numbers = space::numbers();
-    replay(calendar, kinds, xs, ys, register, &mut numbers);
-    compare(text, &numbers, told, kinds.len())
+    let outcome = replay(calendar, kinds, counts, pool, register, &mut numbers);
+    match outcome {
+        Outcome::Done => compare(text, &numbers, told, kinds.len()),
+        Outcome::NotEmpty => not_run(b"it was not run: the register to begin with is not empty"),
+        Outcome::Malformed => not_run(
+            b"it was not run: a call lacks a pair or the room for its number, or is none of the three",
+        ),
+    }
 }
 
-// `replaying::replay` with as many numbers as there are calls. Its contract is the closing property of demand 3.
+fn not_run(why: &[u8]) -> i32 {
+    files::complain(b"the journal", why);
+    TROUBLE
+}
+
+// `replaying::replay` with as many numbers as there are calls; more calls than that are malformed, as lists of different
+// lengths are. Its contract is the closing property of demand 3.
 fn replay(
     calendar: &[u8],
     kinds: &[u8],
-    xs: &[u32],
-    ys: &[u32],
+    counts: &[u8],
+    pool: &[[u32; 2]],
     register: &mut [u8],
     numbers: &mut [u16],
-) {
+) -> Outcome {
     let n = kinds.len();
-    if n <= numbers.len() {
-        replaying::replay(calendar, kinds, xs, ys, register, &mut numbers[0..n]);
+    if numbers.len() < n {
+        return Outcome::Malformed;
     }
+    replaying::replay(calendar, kinds, counts, pool, register, &mut numbers[0..n])
 }
 
 // The register that the text of a journal gives.
 fn rebuild(text: &[u8], calendar: &[u8], register: &mut [u8]) -> i32 {
-    let mut kinds = space::kinds();
-    let mut xs = space::values();
-    let mut ys = space::values();
+    let mut kinds = space::call_bytes();
+    let mut counts = space::call_bytes();
+    let mut pool = space::pairs();
     let mut told = space::numbers();
-    let calls = journal::read(text, &mut kinds, &mut xs, &mut ys, &mut told);
+    let calls = journal::read(text, &mut kinds, &mut counts, &mut pool, &mut told);
     match calls {
-        Calls::Taken(n, is_cut) => {
+        Calls::Taken(taken, is_cut) => {
             if is_cut {
                 files::complain(b"the journal", b"its last line was cut off; it is left out");
             }
-            let xs = first_numbers(&xs, n);
-            let ys = first_numbers(&ys, n);
+            let n = taken.calls;
+            let pool = first_pairs(&pool, taken.pairs);
             run_calls(
                 text,
                 calendar,
                 text::part(&kinds, 0, n),
-                xs,
-                ys,
+                text::part(&counts, 0, n),
+                pool,
                 &told,
                 register,
             )

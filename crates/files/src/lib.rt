@@ -14,11 +14,11 @@ pub use ending::read_tail;
 use libc::STDERR_FILENO;
 pub use whole::beside;
 pub use whole::discard;
-pub use whole::fill;
 pub use whole::install;
 pub use whole::lock;
 pub use whole::release;
 pub use whole::replace;
+pub use whole::save;
 
 pub enum Loaded {
     // So many bytes, all of the file.

@@ -54,7 +54,7 @@ fn write_through(fd: i32, bytes: &[u8]) -> bool {
 }
 
 // Writes the new file and brings it to the disk. Where that fails it is taken away.
-pub fn fill(fd: i32, beside: &[u8], bytes: &[u8]) -> bool {
+pub fn save(fd: i32, beside: &[u8], bytes: &[u8]) -> bool {
     if !write_through(fd, bytes) {
         os::fail(beside);
         release(fd, beside);
@@ -87,7 +87,7 @@ pub fn replace(path: &[u8], bytes: &[u8]) -> bool {
     if fd < 0 {
         return false;
     }
-    if !fill(fd, beside, bytes) {
+    if !save(fd, beside, bytes) {
         return false;
     }
     install(path, beside)

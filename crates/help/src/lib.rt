@@ -1,6 +1,6 @@
 // The commands of the program, and what it says of itself, one text a command.
 
-// The commands by number. start, session and announce have the numbers of a journal's calls.
+// The commands by number.
 pub const START: u32 = 0;
 
 pub const SESSION: u32 = 1;

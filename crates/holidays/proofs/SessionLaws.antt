@@ -15,7 +15,7 @@ use borrow.Author.Tests.{eq-eqb, ne-eqb, eqb-true, eqb-false, lt-ltb, le-ltb}
 use Rattle.base.proofs.Tests.{byBool, byLe, and-no}
 use Rattle.base.proofs.Table.{both, both-left, both-right, at}
 use Rattle.calendar.specs.Calendar.{session}
-use Rattle.holidays.specs.Sessions.{weekday, opened, closed}
+use Rattle.holidays.specs.Sessions.{weekday, withSession, withoutSession}
 
 -- ---- bits of the operations
 half : (n j : ℕ) → n / 2 ^ suc j ≡ n / 2 / 2 ^ j
@@ -80,38 +80,38 @@ module _ (cal : List ℕ) (day n : ℕ) (inside : day / 8 < length cal) where
   other-day : (n / 8 ≡ day / 8 → ⊥) → eqb n day ≡ false
   other-day h = ne-eqb n day (λ e. h (ap (λ (x : ℕ). x / 8) e))
 
-  pub opened-session : session (opened cal day) n ≡ (eqb n day || session cal n)
-  unfolding session opened
-  opened-session = byBool (eqb (n / 8) (day / 8)) (λ t. here (eqb-true _ _ t)) (λ f. there (eqb-false _ _ f))
+  pub set-session : session (withSession cal day) n ≡ (eqb n day || session cal n)
+  unfolding session withSession
+  set-session = byBool (eqb (n / 8) (day / 8)) (λ t. here (eqb-true _ _ t)) (λ f. there (eqb-false _ _ f))
     where
       b : ℕ
       b = getD cal (day / 8) 0
 
-      here : n / 8 ≡ day / 8 → session (opened cal day) n ≡ (eqb n day || session cal n)
+      here : n / 8 ≡ day / 8 → session (withSession cal day) n ≡ (eqb n day || session cal n)
       here e =
           let byte = getD-set-same cal (day / 8) (bitOr b (2 ^ (day % 8))) 0 inside in
           let bit = weight-bit (day % 8) (n % 8) (omega arith) (omega arith) in
           rw (e, byte, or-bit (n % 8) b (2 ^ (day % 8)), bit, same-day e)
           (set-test (eqb n day) (b / 2 ^ (n % 8) % 2) (omega arith))
 
-      there : (n / 8 ≡ day / 8 → ⊥) → session (opened cal day) n ≡ (eqb n day || session cal n)
+      there : (n / 8 ≡ day / 8 → ⊥) → session (withSession cal day) n ≡ (eqb n day || session cal n)
       there h = rw (getD-set-other cal (day / 8) (n / 8) (bitOr (getD cal (day / 8) 0) (2 ^ (day % 8))) 0 h, other-day h)
 
-  pub closed-session : session (closed cal day) n ≡ (not (eqb n day) && session cal n)
-  unfolding session closed
-  closed-session = byBool (eqb (n / 8) (day / 8)) (λ t. here (eqb-true _ _ t)) (λ f. there (eqb-false _ _ f))
+  pub unset-session : session (withoutSession cal day) n ≡ (not (eqb n day) && session cal n)
+  unfolding session withoutSession
+  unset-session = byBool (eqb (n / 8) (day / 8)) (λ t. here (eqb-true _ _ t)) (λ f. there (eqb-false _ _ f))
     where
       b : ℕ
       b = getD cal (day / 8) 0
 
-      here : n / 8 ≡ day / 8 → session (closed cal day) n ≡ (not (eqb n day) && session cal n)
+      here : n / 8 ≡ day / 8 → session (withoutSession cal day) n ≡ (not (eqb n day) && session cal n)
       here e =
           let byte = getD-set-same cal (day / 8) (bitAnd b (255 - 2 ^ (day % 8))) 0 inside in
           let bit = mask-bit (day % 8) (n % 8) (omega arith) (omega arith) in
           rw (e, byte, and-bit (n % 8) b (255 - 2 ^ (day % 8)), bit, same-day e)
           (clear-test (eqb n day) (b / 2 ^ (n % 8) % 2) (omega arith))
 
-      there : (n / 8 ≡ day / 8 → ⊥) → session (closed cal day) n ≡ (not (eqb n day) && session cal n)
+      there : (n / 8 ≡ day / 8 → ⊥) → session (withoutSession cal day) n ≡ (not (eqb n day) && session cal n)
       there h = rw (getD-set-other cal (day / 8) (n / 8) (bitAnd (getD cal (day / 8) 0) (255 - 2 ^ (day % 8))) 0 h, other-day h)
 
 -- ---- the weekdays given their sessions one after the other

@@ -12,8 +12,8 @@ abbrev pub weekday : ℕ → Bool
 weekday day = leb 2 (day % 7)
 
 -- past the calendar's end nothing changes
-unfoldable pub opened : List ℕ → ℕ → List ℕ
-opened cal day = set cal (day / 8) (bitOr (getD cal (day / 8) 0) (2 ^ (day % 8)))
+unfoldable pub withSession : List ℕ → ℕ → List ℕ
+withSession cal day = set cal (day / 8) (bitOr (getD cal (day / 8) 0) (2 ^ (day % 8)))
 
-unfoldable pub closed : List ℕ → ℕ → List ℕ
-closed cal day = set cal (day / 8) (bitAnd (getD cal (day / 8) 0) (255 - 2 ^ (day % 8)))
+unfoldable pub withoutSession : List ℕ → ℕ → List ℕ
+withoutSession cal day = set cal (day / 8) (bitAnd (getD cal (day / 8) 0) (255 - 2 ^ (day % 8)))

@@ -10,7 +10,7 @@ ghost use lib.Dec.{ltb};
 ghost use lib.ListN.{length, replicate};
 ghost use Rattle.dates.specs.Months.{dayCount};
 ghost use Rattle.calendar.specs.Calendar.{calendarLength, session};
-ghost use Rattle.holidays.specs.Sessions.{weekday, opened, closed};
+ghost use Rattle.holidays.specs.Sessions.{weekday, withSession, withoutSession};
 
 // Why a line is refused.
 pub enum Reason {
@@ -50,8 +50,8 @@ fn weight(day: u32) -> u8
 }
 
 // Gives a day a session.
-fn open(calendar: &mut [u8], day: u32)
-    ensures { λ _. ⌜ now (calendar .exit) ≡ opened (now (calendar .entry)) day ⌝ }
+fn set_session(calendar: &mut [u8], day: u32)
+    ensures { λ _. ⌜ now (calendar .exit) ≡ withSession (now (calendar .entry)) day ⌝ }
 {
     let at = (day / 8) as usize;
     if at < calendar.len() {
@@ -60,8 +60,8 @@ fn open(calendar: &mut [u8], day: u32)
 }
 
 // Takes a day's session away.
-fn close(calendar: &mut [u8], day: u32)
-    ensures { λ _. ⌜ now (calendar .exit) ≡ closed (now (calendar .entry)) day ⌝ }
+fn unset_session(calendar: &mut [u8], day: u32)
+    ensures { λ _. ⌜ now (calendar .exit) ≡ withoutSession (now (calendar .entry)) day ⌝ }
 {
     let at = (day / 8) as usize;
     if at < calendar.len() {
@@ -80,7 +80,7 @@ fn clear(calendar: &mut [u8])
 }
 
 // Gives every weekday a session, and no other day.
-fn open_weekdays(calendar: &mut [u8])
+fn set_weekdays(calendar: &mut [u8])
     requires { ⌜ length (now calendar) ≡ calendarLength ⌝ }
     ensures { λ _. ⌜ ((n : ℕ) → session (now (calendar .exit)) n ≡ (ltb n dayCount && weekday n)) ⌝ }
 {
@@ -88,7 +88,7 @@ fn open_weekdays(calendar: &mut [u8])
     let mut day: u32 = 0;
     while day < DAYS as u32 {
         if is_weekday(day) {
-            open(calendar, day);
+            set_session(calendar, day);
         }
         day += 1;
     }
@@ -125,7 +125,7 @@ fn take_weekday(word: &[u8], calendar: &mut [u8]) -> Entry {
     if !is_weekday(day) {
         return Entry::Bad(Reason::Weekend);
     }
-    close(calendar, day);
+    unset_session(calendar, day);
     Entry::Taken
 }
 
@@ -140,7 +140,7 @@ fn take_extra(word: &[u8], calendar: &mut [u8]) -> Entry {
     if is_weekday(day) {
         return Entry::Bad(Reason::Weekday);
     }
-    open(calendar, day);
+    set_session(calendar, day);
     Entry::Taken
 }
 
@@ -190,7 +190,7 @@ pub fn make(list: &[u8], calendar: &mut [u8]) -> Made {
     if calendar.len() != CALENDAR_LENGTH {
         return Made::WrongLength;
     }
-    open_weekdays(calendar);
+    set_weekdays(calendar);
     take_lines(list, calendar)
 }
 
@@ -216,7 +216,7 @@ fn words(out: &mut [u8], at: usize, reason: Reason) -> usize {
 }
 
 // Writes a line that was refused, and why.
-pub fn refused(out: &mut [u8], at: usize, list: &[u8], line: u32, reason: Reason) -> usize {
+pub fn complaint(out: &mut [u8], at: usize, list: &[u8], line: u32, reason: Reason) -> usize {
     let at = lines::show(out, at, list, line);
     words(out, at, reason)
 }

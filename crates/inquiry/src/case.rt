@@ -38,7 +38,7 @@ pub fn case_of(
         month: month,
         price: price,
         tiers: tiers,
-        tier: reading::tier(calendar, register, month),
+        tier: reading::tier(register, month),
         expiry: lookup::lookup_expiry(calendar, month),
         low: low,
         high: high,

@@ -1,9 +1,8 @@
-// Why a series is listed, or is not, and what would bring it in: answered from a calendar and a register.
+// Why a series is listed, or is not, and what would bring it in: answered from a calendar and a register that was accepted.
 mod case;
 mod months;
 mod next;
 
-use base::causes;
 use case::Case;
 use phrases::fill;
 use reading::Row;
@@ -17,21 +16,10 @@ pub fn why(
     month: u32,
     price: u32,
 ) -> usize {
-    let number = rows::rows_number(calendar, register, month);
-    if !is_answered(number) {
-        let opens = register::opening(calendar, register);
-        let value = opens.month as u32;
-        return wording::refusal(out, at, calendar, register, number, value, month, price);
-    }
     let tiers = case::tiers_with(price);
     let at = series(out, at, month, price, tiers);
-    let at = answer(out, at, calendar, register, month, price, tiers);
+    let at = verdict(out, at, calendar, register, month, price, tiers);
     text::put(out, at, b"\n")
-}
-
-// A month that is not live, cause 26 of the rows call, has an answer too.
-fn is_answered(number: u16) -> bool {
-    number == 0 || number == causes::ROWS_MONTH
 }
 
 // The names of call and put, or month and price where these have no name.
@@ -56,7 +44,8 @@ fn place_of(rows: &[u8], end: u32, price: u32) -> u32 {
     end
 }
 
-fn answer(
+// Whether it is listed, and what follows.
+fn verdict(
     out: &mut [u8],
     at: usize,
     calendar: &[u8],
@@ -65,8 +54,8 @@ fn answer(
     price: u32,
     tiers: u32,
 ) -> usize {
-    let rows = rows::rows(calendar, register, month);
-    let end = reading::size(rows);
+    let rows = reading::rows_of(register, month);
+    let end = reading::count(rows);
     if end == 0 {
         return months::not_live(out, at, calendar, register, month);
     }

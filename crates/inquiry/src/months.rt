@@ -59,7 +59,7 @@ fn past_or_ahead(out: &mut [u8], at: usize, calendar: &[u8], first: u32, month: 
 }
 
 pub fn not_live(out: &mut [u8], at: usize, calendar: &[u8], register: &[u8], month: u32) -> usize {
-    let first = reading::first_live(calendar, register);
+    let first = reading::first_live(register);
     let at = past_or_ahead(out, at, calendar, first, month);
-    wording::live_months(out, at, calendar, register)
+    wording::live_months(out, at, register)
 }

@@ -19,23 +19,30 @@ pub enum Reason {
     Full,
 }
 
+// How much of the lists is taken.
+pub struct Extent {
+    pub calls: usize,
+    pub pairs: usize,
+}
+
 // A journal that was read.
 pub enum Calls {
-    // How many calls, and whether a last line without line feed, which a crash cut off, is left out.
-    Taken(usize, bool),
+    // How many calls and pairs, and whether a last line without line feed, which a crash cut off, is left out.
+    Taken(Extent, bool),
     // The first line that cannot be taken, and why.
     Refused(u32, Reason),
 }
 
 enum Line {
     Nothing,
+    // A call of one pair: its kind, the pair, and the number behind it.
     Call(u8, u32, u32, u16),
     Bad(Reason),
 }
 
-// How many calls are taken after a line.
+// How much is taken after a line.
 enum Step {
-    To(usize),
+    To(Extent),
     Bad(Reason),
 }
 
@@ -124,67 +131,72 @@ fn parse(line: &[u8]) -> Line {
     day_and_close(kind, arguments)
 }
 
-// Takes a line's call behind the first n.
+// Takes a line's call behind those that are taken.
 fn take(
     line: &[u8],
     kinds: &mut [u8],
-    xs: &mut [u32],
-    ys: &mut [u32],
+    counts: &mut [u8],
+    pool: &mut [[u32; 2]],
     told: &mut [u16],
-    n: usize,
+    taken: Extent,
 ) -> Step {
     let parsed = parse(line);
     match parsed {
-        Line::Nothing => Step::To(n),
+        Line::Nothing => Step::To(taken),
         Line::Bad(reason) => Step::Bad(reason),
         Line::Call(kind, x, y, number) => {
+            let n = taken.calls;
+            let at = taken.pairs;
             if kinds.len() <= n {
                 return Step::Bad(Reason::Full);
             }
-            if xs.len() <= n {
+            if counts.len() <= n {
                 return Step::Bad(Reason::Full);
             }
-            if ys.len() <= n {
+            if pool.len() <= at {
                 return Step::Bad(Reason::Full);
             }
             if told.len() <= n {
                 return Step::Bad(Reason::Full);
             }
             kinds[n] = kind;
-            xs[n] = x;
-            ys[n] = y;
+            counts[n] = 1;
+            pool[at] = [x, y];
             told[n] = number;
-            Step::To(n + 1)
+            Step::To(Extent {
+                calls: n + 1,
+                pairs: at + 1,
+            })
         }
     }
 }
 
-// Reads a journal. A call's two arguments go into `xs` and `ys`, the number behind it into `told`. An entry point: it
-// takes any bytes.
+// Reads a journal. The kind of a call goes into `kinds`, how many pairs it has into `counts`, the pairs of all calls one behind
+// the other into `pool`, and the number behind a call into `told`. An entry point: it takes any bytes.
 pub fn read(
     text: &[u8],
     kinds: &mut [u8],
-    xs: &mut [u32],
-    ys: &mut [u32],
+    counts: &mut [u8],
+    pool: &mut [[u32; 2]],
     told: &mut [u16],
 ) -> Calls {
-    let mut n: usize = 0;
+    let mut taken = Extent { calls: 0, pairs: 0 };
     let mut line: u32 = 1;
     let mut start: usize = 0;
     let mut i: usize = 0;
     while i < text.len() {
         if text[i] == b'\n' {
-            let step = take(text::part(text, start, i), kinds, xs, ys, told, n);
+            let step = take(text::part(text, start, i), kinds, counts, pool, told, taken);
             match step {
                 Step::Bad(reason) => return Calls::Refused(line, reason),
-                Step::To(to) => n = to,
+                Step::To(to) => taken = to,
             }
             start = i + 1;
             line = lines::next(line);
         }
         i += 1;
     }
-    Calls::Taken(n, start < text.len())
+    Calls::Taken(taken, start < text.len())
 }
 
 fn has_call(line: &[u8]) -> bool {

@@ -5,11 +5,12 @@
 //     announce 2026-12 3100 = 0 waiting 1
 //     session 2026-11-19 2420.10 = 19
 //
-// A call, its two arguments, `=`, the number that it gave, and the values beside it.
+// A call, its pairs of arguments, `=`, the number that it gave, and the values beside it. Each call has one pair.
 mod input;
 mod output;
 
 pub use input::Calls;
+pub use input::Extent;
 pub use input::Reason;
 pub use input::complaint;
 pub use input::first_untold;

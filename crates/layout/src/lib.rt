@@ -20,7 +20,7 @@ pub const DAY: usize = 2;
 
 pub const COUNT: usize = 4;
 
-pub const SPARE: usize = 6;
+pub const UNUSED: usize = 6;
 
 // Where the announcements and the rows begin, and how many bytes the place of one takes.
 pub const PLACES: usize = 8;
@@ -31,12 +31,16 @@ pub const ROWS: usize = 136;
 
 pub const ROW_LENGTH: usize = 8;
 
-// Where an announcement or a row has its price behind its month, and a row its first day and its origin.
+// Where an announcement or a row has its month and its price, and a row its first day, its origin and a byte that is zero.
+pub const MONTH: usize = 0;
+
 pub const PRICE: usize = 2;
 
 pub const FIRST_DAY: usize = 4;
 
 pub const ORIGIN: usize = 6;
+
+pub const SPARE: usize = 7;
 
 // Whether all bytes are zero. The loop does not leave early and keeps the greatest byte, so that the compiler vectorises it.
 pub fn is_zero(bytes: &[u8]) -> bool

@@ -6,10 +6,10 @@ use layout::COUNT;
 use layout::DAY;
 use layout::PLACES;
 use layout::REGISTER_LENGTH;
-use layout::ROW_LENGTH;
 use layout::ROWS;
-use layout::SPARE;
+use layout::ROW_LENGTH;
 use layout::STATUS;
+use layout::UNUSED;
 use layout::WAITING;
 use rules::LAST_FIRST_MONTH;
 ghost use mathlib.Core.Path.{_≡_};
@@ -97,8 +97,8 @@ fn write_head(register: &mut [u8], day: u16, count: u16)
     register[DAY + 1] = (day / 256) as u8;
     register[COUNT] = (count % 256) as u8;
     register[COUNT + 1] = (count / 256) as u8;
-    register[SPARE] = 0;
-    register[SPARE + 1] = 0;
+    register[UNUSED] = 0;
+    register[UNUSED + 1] = 0;
 }
 
 // Lists all six months from their spans and the old rows that stay. Returns the row count.

@@ -61,7 +61,7 @@ fn beside(i: u32, end: u32) -> u32 {
 }
 
 fn bars(out: &mut [u8], at: usize, rows: &[u8], scale: Scale, day: u32) -> usize {
-    let end = reading::size(rows);
+    let end = reading::count(rows);
     let mut at = at;
     let mut i: u32 = 0;
     while i < end {
@@ -79,13 +79,13 @@ fn column(
     out: &mut [u8],
     at: usize,
     calendar: &[u8],
-    rows: &[u8],
+    register: &[u8],
     scale: Scale,
-    first: u32,
     month: u32,
     day: u32,
     left: u32,
 ) -> usize {
+    let rows = reading::rows_of(register, month);
     let high = reading::highest(rows);
     let low = reading::lowest(rows);
     let top = height_of(scale, high);
@@ -103,7 +103,7 @@ fn column(
         [0; 6],
     );
     let at = bars(out, at, rows, scale, day);
-    let tier = lookup::lookup_tier_of(first, month);
+    let tier = reading::tier(register, month);
     shape(
         out,
         at,
@@ -130,28 +130,25 @@ fn column(
     )
 }
 
-// The columns of the six live months from the first one on.
+// The columns of the six live months.
 pub fn columns(
     out: &mut [u8],
     at: usize,
     calendar: &[u8],
     register: &[u8],
     scale: Scale,
-    first: u32,
     day: u32,
 ) -> usize {
     let mut at = at;
     let mut place: u32 = 0;
     while place < 6 {
-        let month = lookup::lookup_live_month(first, place);
-        let rows = rows::rows(calendar, register, month);
+        let month = reading::live_month(register, place);
         at = column(
             out,
             at,
             calendar,
-            rows,
+            register,
             scale,
-            first,
             month,
             day,
             80 + 150 * place,

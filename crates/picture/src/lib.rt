@@ -8,14 +8,7 @@ use phrases::fill;
 use scale::Scale;
 
 // What is listed, and the legend. The black block that marks a new row has no origin's colour.
-fn listed(
-    out: &mut [u8],
-    at: usize,
-    calendar: &[u8],
-    register: &[u8],
-    scale: Scale,
-    first: u32,
-) -> usize {
+fn listed(out: &mut [u8], at: usize, calendar: &[u8], register: &[u8], scale: Scale) -> usize {
     let day = reading::day(register);
     let new = reading::listed_on(reading::all_rows(register), day);
     let at = fill(
@@ -40,13 +33,12 @@ fn listed(
         [5, 1, 2, 3, 4, 0],
     );
     let at = scale::axis(out, at, scale);
-    bars::columns(out, at, calendar, register, scale, first, day)
+    bars::columns(out, at, calendar, register, scale, day)
 }
 
 // A register that lists nothing gives a picture that says so.
 pub fn svg(out: &mut [u8], at: usize, calendar: &[u8], register: &[u8]) -> usize {
-    let first = reading::first_live(calendar, register);
-    let scale = scale::scale_of(calendar, register, first);
+    let scale = scale::scale_of(register);
     let at = text::put(
         out,
         at,
@@ -63,6 +55,6 @@ text{font:13px Helvetica,Arial,'Liberation Sans',sans-serif;fill:#333}
     if scale.high <= scale.low {
         return text::put(out, at, b"No WIG20 options are listed</text>\n</svg>\n");
     }
-    let at = listed(out, at, calendar, register, scale, first);
+    let at = listed(out, at, calendar, register, scale);
     text::put(out, at, b"</svg>\n")
 }

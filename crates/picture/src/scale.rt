@@ -22,16 +22,16 @@ fn widened(scale: Scale, rows: &[u8]) -> Scale {
     }
 }
 
-// The scale of the six live months from the first one on.
-pub fn scale_of(calendar: &[u8], register: &[u8], first: u32) -> Scale {
+// The scale of the six live months.
+pub fn scale_of(register: &[u8]) -> Scale {
     let mut scale = Scale {
         low: lookup::OUTSIDE,
         high: 0,
     };
     let mut place: u32 = 0;
     while place < 6 {
-        let month = lookup::lookup_live_month(first, place);
-        scale = widened(scale, rows::rows(calendar, register, month));
+        let month = reading::live_month(register, place);
+        scale = widened(scale, reading::rows_of(register, month));
         place += 1;
     }
     scale

@@ -2,7 +2,7 @@
 use phrases::fill;
 
 // A form with places for a number and for a length in whole pixels; the tenths follow, where there are some.
-fn part(out: &mut [u8], at: usize, form: &[u8], number: u32, length: u32) -> usize {
+fn with_length(out: &mut [u8], at: usize, form: &[u8], number: u32, length: u32) -> usize {
     let at = fill(out, at, form, [number, length / 10, 0, 0, 0, 0]);
     if length % 10 == 0 {
         return at;
@@ -23,7 +23,7 @@ pub fn shape(
     lower: &[u8],
     values: [u32; 6],
 ) -> usize {
-    let at = part(out, at, upper, m, x);
-    let at = part(out, at, middle, n, y);
+    let at = with_length(out, at, upper, m, x);
+    let at = with_length(out, at, middle, n, y);
     fill(out, at, lower, values)
 }

@@ -8,14 +8,14 @@ use layout::COUNT;
 use layout::DAY;
 use layout::MOST_ROWS;
 use layout::MOST_WAITING;
-use layout::PLACE_LENGTH;
 use layout::PLACES;
+use layout::PLACE_LENGTH;
 use layout::PRICE;
 use layout::REGISTER_LENGTH;
-use layout::ROW_LENGTH;
 use layout::ROWS;
-use layout::SPARE;
+use layout::ROW_LENGTH;
 use layout::STATUS;
+use layout::UNUSED;
 use layout::WAITING;
 use rules::LAST_FIRST_MONTH;
 ghost use mathlib.Core.Path.{_≡_};
@@ -45,10 +45,10 @@ fn keeps_layout(register: &[u8]) -> bool
     if MOST_WAITING < waiting {
         return false;
     }
-    if register[SPARE] != 0 {
+    if register[UNUSED] != 0 {
         return false;
     }
-    if register[SPARE + 1] != 0 {
+    if register[UNUSED + 1] != 0 {
         return false;
     }
     let rows = word(register, COUNT) as usize;

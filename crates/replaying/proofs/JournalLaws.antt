@@ -1,95 +1,134 @@
--- One call more of a journal: what the register and the numbers are behind it.
+-- The calls of a journal from a place on: what one call more does to the register and the numbers.
 -- Assumes nothing.
-use mathlib.Core.Path.{_≡_, refl, ap}
-use mathlib.Core.Bool.{true, false}
-use mathlib.Core.List.{List, [], _∷_, _++_}
-use Prim.Native.Nat.{ℕ, zero, suc, _+_, _≤_, _<_}
-use native.Mathlib.Nat.{le-of-suc-le-suc, not-suc-le-zero}
+use mathlib.Core.Path.{_≡_, refl, sym, ap, _∙_}
+use mathlib.Core.Bool.{Bool, true, false, _&&_, false≢true}
+use mathlib.Core.List.{List, [], _∷_, _++_, append-nil}
+use mathlib.Core.Option.{Option, none, some}
+use Prim.Native.Nat.{ℕ, _+_, _-_, _≤_, _<_}
+use native.Mathlib.Nat.{add-sub-cancel-left}
 use native.Mathlib.Numerals.{add-one}
-use lib.ListN.{length, getD, take, drop, set, drop-of-length-le}
-use lib.Seq.{take-all, take-suc-set, drop-cons}
-use borrow.Author.Tests.{le-leb, lt-leb}
+use native.Mathlib.Omega.{arith}
+use lib.Dec.{eqb, leb}
+use lib.ListN.{length, getD, take, drop, set, drop-of-length-le, length-drop}
+use lib.Seq.{take-all, take-suc-set, drop-cons, drop-drop, append-snoc}
+use borrow.Author.Tests.{leb-true, lt-leb, le-leb, eq-eqb, eqb-true}
+use Rattle.base.proofs.Tests.{and-l, and-r, and-no, iff}
 use Rattle.rules.specs.Rules.{Rules}
-use Rattle.calls.specs.Calls.{Call, callOf}
-use Rattle.calls.specs.Answers.{numberAt, afterAt}
+use Rattle.rules.specs.Rulebook.{rules}
+use Rattle.calls.specs.Calls.{Call, callOf, isCall}
+use Rattle.calls.specs.Answers.{numberAt, afterAt, answerAt, calledAt, afterCalled}
+use Rattle.calls.specs.declared.Answer.{Answer}
+use Rattle.calls.specs.declared.Called.the-variants.{Answered, NoCall}
+use Rattle.calling.proofs.Answers.{answer-number}
 use Rattle.history.specs.Claim.{finalAt, numbersAt}
-use Rattle.replaying.specs.Journal.{journal, kindsOk}
+use Rattle.replaying.specs.Journal.{callThen, journal, allCalls}
 
-module _ (R : Rules) where
-  final-more : (ks : List Call) (k : Call) (bs : List ℕ) → finalAt R (ks ++ (k ∷ [])) bs ≡ afterAt R k (finalAt R ks bs)
-  unfolding finalAt
-  final-more [] k bs = refl
-  final-more (j ∷ ks) k bs = final-more ks k (afterAt R j bs)
+module _ (kinds counts : List ℕ) (pool : List (List ℕ)) where
+  -- the calls from a place of the kinds and a place of the pool on, and whether each is one
+  abbrev pub callsFrom : ℕ → ℕ → List Call
+  callsFrom i at = journal (drop i kinds) (drop i counts) (drop at pool)
 
-  numbers-more : (ks : List Call) (k : Call) (bs : List ℕ)
-      → numbersAt R (ks ++ (k ∷ [])) bs ≡ numbersAt R ks bs ++ (numberAt R k (finalAt R ks bs) ∷ [])
+  abbrev pub fitFrom : ℕ → ℕ → Bool
+  fitFrom i at = allCalls (drop i kinds) (drop i counts) (drop at pool)
+
+  -- the call that stands there, where it has n pairs, cut out as the code does it
+  abbrev pub callAt : ℕ → ℕ → ℕ → Option Call
+  callAt i at n = callOf (getD kinds i 0) (take (at + n - at) (drop at pool))
+
+  -- the call there, with the n pairs that it has, and what stands behind it
+  module _ (i at n : ℕ) (l : i < length kinds) (m : i < length counts) (e : n ≡ getD counts i 0) where
+    fit-step : fitFrom i at ≡ (leb n (length (drop at pool)) && (isCall (callAt i at n) && fitFrom (i + 1) (at + n)))
+    unfolding allCalls
+    fit-step = rw (add-sub-cancel-left at n, e, drop-cons kinds i 0 l, drop-cons counts i 0 m, drop-drop (getD counts i 0) at pool, add-one)
+
+    calls-more : callsFrom i at ≡ callThen (callAt i at n) (callsFrom (i + 1) (at + n))
+    unfolding journal
+    calls-more = rw (add-sub-cancel-left at n, e, drop-cons kinds i 0 l, drop-cons counts i 0 m, drop-drop (getD counts i 0) at pool, add-one)
+
+    pub fit-short : length pool - at < n → fitFrom i at ≡ false
+    fit-short h = fit-step ∙ rw (lt-leb n (length (drop at pool)) (rw (length-drop at pool) h))
+
+    pub fit-other : isCall (callAt i at n) ≡ false → fitFrom i at ≡ false
+    fit-other h = fit-step ∙ rw h (and-no (leb n (length (drop at pool))) false refl)
+
+    pub fit-more : n ≤ length pool - at → isCall (callAt i at n) ≡ true → fitFrom i at ≡ fitFrom (i + 1) (at + n)
+    fit-more h k = fit-step ∙ rw (le-leb n (length (drop at pool)) (rw (length-drop at pool) h), k)
+
+    -- where all fit
+    module _ (h : fitFrom i at ≡ true) where
+      all : (leb n (length (drop at pool)) && (isCall (callAt i at n) && fitFrom (i + 1) (at + n))) ≡ true
+      all = sym fit-step ∙ h
+
+      pub fits-pool : n ≤ length pool - at
+      fits-pool = rw (length-drop at pool) at (leb-true n (length (drop at pool)) (and-l (leb n (length (drop at pool))) _ all))
+
+      pub fits-call : isCall (callAt i at n) ≡ true
+      fits-call = and-l (isCall (callAt i at n)) _ (and-r (leb n (length (drop at pool))) _ all)
+
+      fits-rest : fitFrom (i + 1) (at + n) ≡ true
+      fits-rest = and-r (isCall (callAt i at n)) _ (and-r (leb n (length (drop at pool))) _ all)
+
+  module _ (i at : ℕ) (l : length kinds ≤ i) where
+    pub fit-end : at ≤ length pool → fitFrom i at ≡ eqb at (length pool)
+    unfolding allCalls
+    fit-end h = rw (drop-of-length-le kinds l, length-drop at pool) (iff (eqb (length pool - at) 0) (eqb at (length pool)) (λ e. eq-eqb at (length pool) (omega (arith, eqb-true (length pool - at) 0 e))) (λ e. eq-eqb (length pool - at) 0 (omega (arith, eqb-true at (length pool) e))))
+
+    calls-end : callsFrom i at ≡ []
+    unfolding journal
+    calls-end = rw (drop-of-length-le kinds l)
+
+-- ---- what a kind with its pairs answered and left, where they are a call
+pub record Ran (calendar register after : List ℕ) (o : Option Call) (number : ℕ) : Type 0 where
+  pub call : Call
+  pub is : o ≡ some call
+  pub number-is : number ≡ numberAt (rules calendar) call register
+  pub after-is : after ≡ afterAt (rules calendar) call register
+
+module _ (calendar register : List ℕ) where
+  pub ran : (after : List ℕ) (o : Option Call) (a : Answer) → Answered a ≡ calledAt calendar o register → after ≡ afterCalled (rules calendar) o register → Ran calendar register after o (a .number)
+  unfolding calledAt afterCalled
+  ran after none a h l = let z : _≡_ {A = ℕ} 0 1 = cc in absurd (omega arith)
+  ran after (some k) a h l =
+      let e : a ≡ answerAt calendar k register = cc in
+      record { call = k; is = refl; number-is = ap (λ (b : Answer). b .number) e ∙ answer-number calendar k register; after-is = l }
+
+  pub not-ran {ℓ} : {X : Type ℓ} (o : Option Call) → isCall o ≡ true → NoCall ≡ calledAt calendar o register → X
+  unfolding calledAt isCall
+  not-ran none h e = absurd (false≢true h)
+  not-ran (some k) h e = let z : _≡_ {A = ℕ} 0 1 = cc in absurd (omega arith)
+
+-- ---- a run that has come to a place: what is left of it gives what the whole gives
+pub record Behind (R : Rules) (kinds counts : List ℕ) (pool : List (List ℕ)) (from : List ℕ) (i at : ℕ) (register numbers : List ℕ) : Type 0 where
+  pub fit : fitFrom kinds counts pool i at ≡ true
+  pub register-is : finalAt R (journal kinds counts pool) from ≡ finalAt R (callsFrom kinds counts pool i at) register
+  pub numbers-are : numbersAt R (journal kinds counts pool) from ≡ take i numbers ++ numbersAt R (callsFrom kinds counts pool i at) register
+
+module _ (kinds counts : List ℕ) (pool : List (List ℕ)) (from : List ℕ) where
+  pub behind-none : (R : Rules) (numbers : List ℕ) → allCalls kinds counts pool ≡ true → Behind R kinds counts pool from 0 0 from numbers
+  behind-none R numbers h = record { fit = h; register-is = refl; numbers-are = refl }
+
+  pub behind-more : (calendar : List ℕ) (i at n : ℕ) (register numbers after : List ℕ) (number : ℕ)
+      → i < length kinds → i < length counts → i < length numbers → n ≡ getD counts i 0
+      → Ran calendar register after (callAt kinds counts pool i at n) number
+      → Behind (rules calendar) kinds counts pool from i at register numbers
+      → Behind (rules calendar) kinds counts pool from (i + 1) (at + n) after (set numbers i number)
+  unfolding callThen finalAt numbersAt
+  behind-more calendar i at n register numbers after number l m p e r h =
+      let rest : List Call = callsFrom kinds counts pool (i + 1) (at + n) in
+      let more : callsFrom kinds counts pool i at ≡ r .call ∷ rest = calls-more kinds counts pool i at n l m e ∙ rw (r .is) in
+      record {
+        fit = fits-rest kinds counts pool i at n l m e (h .fit);
+        register-is = h .register-is ∙ rw (more, r .after-is);
+        numbers-are =
+            h .numbers-are
+            ∙ rw (more, add-one, take-suc-set numbers i number p, append-snoc (take i numbers) number, r .number-is, r .after-is);
+      }
+
+  pub behind-all : (R : Rules) (i at : ℕ) (register numbers : List ℕ)
+      → length kinds ≤ i → length numbers ≡ length kinds
+      → Behind R kinds counts pool from i at register numbers
+      → (register ≡ finalAt R (journal kinds counts pool) from) × (numbers ≡ numbersAt R (journal kinds counts pool) from)
   unfolding finalAt numbersAt
-  numbers-more [] k bs = refl
-  numbers-more (j ∷ ks) k bs = ap (λ (ns : List ℕ). numberAt R j bs ∷ ns) (numbers-more ks k (afterAt R j bs))
-
--- the first i calls of a journal
-abbrev pub firstCalls : List ℕ → List ℕ → List ℕ → ℕ → List Call
-firstCalls kinds xs ys i = journal (take i kinds) (take i xs) (take i ys)
-
-abbrev pub callAt : List ℕ → List ℕ → List ℕ → ℕ → Call
-callAt kinds xs ys i = callOf (getD kinds i 0) (getD xs i 0) (getD ys i 0)
-
-calls-more : (kinds xs ys : List ℕ) (i : ℕ) → i < length kinds → i < length xs → i < length ys
-    → firstCalls kinds xs ys (suc i) ≡ firstCalls kinds xs ys i ++ (callAt kinds xs ys i ∷ [])
-unfolding journal
-calls-more [] xs ys i a b c = absurd (not-suc-le-zero a)
-calls-more (k ∷ ks) [] ys i a b c = absurd (not-suc-le-zero b)
-calls-more (k ∷ ks) (x ∷ xs) [] i a b c = absurd (not-suc-le-zero c)
-calls-more (k ∷ ks) (x ∷ xs) (y ∷ ys) zero a b c = refl
-calls-more (k ∷ ks) (x ∷ xs) (y ∷ ys) (suc i) a b c =
-    ap (λ (js : List Call). callOf k x y ∷ js)
-    (calls-more ks xs ys i (le-of-suc-le-suc a) (le-of-suc-le-suc b) (le-of-suc-le-suc c))
-
--- the register and the numbers behind the first i calls are those that the calls give
-pub record Behind (R : Rules) (kinds xs ys from : List ℕ) (i : ℕ) (register numbers : List ℕ) : Type 0 where
-  pub register-is : register ≡ finalAt R (firstCalls kinds xs ys i) from
-  pub numbers-are : take i numbers ≡ numbersAt R (firstCalls kinds xs ys i) from
-
-pub behind-none : (R : Rules) (kinds xs ys from numbers : List ℕ) → Behind R kinds xs ys from 0 from numbers
-unfolding journal finalAt numbersAt
-behind-none R kinds xs ys from numbers = record { register-is = refl; numbers-are = refl }
-
-pub behind-more : (R : Rules) (kinds xs ys from : List ℕ) (i n : ℕ) (register numbers after : List ℕ)
-    → i < length kinds → i < length xs → i < length ys → i < length numbers
-    → n ≡ numberAt R (callAt kinds xs ys i) register → after ≡ afterAt R (callAt kinds xs ys i) register
-    → Behind R kinds xs ys from i register numbers → Behind R kinds xs ys from (i + 1) after (set numbers i n)
-behind-more R kinds xs ys from i n register numbers after a b c d number-is after-is h =
-    let more = calls-more kinds xs ys i a b c in
-    let k : Call = callAt kinds xs ys i in
-    record {
-      register-is = rw (add-one, more, final-more R (firstCalls kinds xs ys i) k from, ← h .register-is) after-is;
-      numbers-are =
-          rw (add-one, more, numbers-more R (firstCalls kinds xs ys i) k from, ← h .register-is, ← h .numbers-are, ← number-is)
-          (take-suc-set numbers i n d);
-    }
-
--- behind all calls
-pub behind-all : (R : Rules) (kinds xs ys from : List ℕ) (i : ℕ) (register numbers : List ℕ)
-    → length kinds ≤ i → length xs ≡ length kinds → length ys ≡ length kinds → length numbers ≡ length kinds
-    → Behind R kinds xs ys from i register numbers
-    → (register ≡ finalAt R (journal kinds xs ys) from) × (numbers ≡ numbersAt R (journal kinds xs ys) from)
-behind-all R kinds xs ys from i register numbers l a b c h =
-    let k : take i kinds ≡ kinds = take-all i kinds l in
-    let x : take i xs ≡ xs = take-all i xs (rw a l) in
-    let y : take i ys ≡ ys = take-all i ys (rw b l) in
-    let n : take i numbers ≡ numbers = take-all i numbers (rw c l) in
-    (rw (k, x, y) at (h .register-is), rw (k, x, y, n) at (h .numbers-are))
-
--- ---- the kinds from place i on
-module _ (kinds : List ℕ) (i : ℕ) where
-  pub kinds-stop : i < length kinds → 2 < getD kinds i 0 → kindsOk (drop i kinds) ≡ false
-  unfolding kindsOk
-  kinds-stop l h = rw (drop-cons kinds i 0 l, lt-leb (getD kinds i 0) 2 h)
-
-  pub kinds-more : i < length kinds → getD kinds i 0 ≤ 2 → kindsOk (drop i kinds) ≡ kindsOk (drop (i + 1) kinds)
-  unfolding kindsOk
-  kinds-more l h = rw (drop-cons kinds i 0 l, le-leb (getD kinds i 0) 2 h, add-one)
-
-  pub kinds-end : length kinds ≤ i → kindsOk (drop i kinds) ≡ true
-  unfolding kindsOk
-  kinds-end h = rw (drop-of-length-le kinds h)
+  behind-all R i at register numbers l p h =
+      let none-left = calls-end kinds counts pool i at l in
+      (sym (h .register-is ∙ rw none-left), sym (h .numbers-are ∙ rw none-left (append-nil (take i numbers) ∙ take-all i numbers (rw p l))))

@@ -13,7 +13,7 @@ use Rattle.rules.specs.Rulebook.{rules}
 use Rattle.layout.specs.Bytes.{registerLength, allZero}
 use Rattle.layout.proofs.ByteLaws.{zeros-are}
 use Rattle.history.specs.Claim.{emptyRegister, finalAt, numbersAt}
-use Rattle.replaying.specs.Journal.{journal, wellKept, isEmpty, outcomeOf, Left}
+use Rattle.replaying.specs.Journal.{journal, allCalls, wellKept, isEmpty, outcomeOf, Left}
 use Rattle.replaying.specs.declared.Outcome.the-variants.{Done, NotEmpty, Malformed}
 use Rattle.history.proofs.Closing.{closing}
 
@@ -23,20 +23,20 @@ empty-is bs e =
     let l : length bs ≡ registerLength = eqb-true (length bs) registerLength (and-l (eqb (length bs) registerLength) (allZero bs) e) in
     zeros-are bs registerLength l (and-r (eqb (length bs) registerLength) (allZero bs) e)
 
-pub record Lengths (kinds xs ys numbers : List ℕ) : Type 0 where
-  pub firsts : length xs ≡ length kinds
-  pub seconds : length ys ≡ length kinds
+-- what a journal that is well kept has
+pub record Kept (kinds counts : List ℕ) (pool : List (List ℕ)) (numbers : List ℕ) : Type 0 where
+  pub counted : length counts ≡ length kinds
   pub places : length numbers ≡ length kinds
+  pub calls : allCalls kinds counts pool ≡ true
 
-pub lengths : (kinds xs ys numbers : List ℕ) → wellKept kinds xs ys numbers ≡ true → Lengths kinds xs ys numbers
+pub kept : (kinds counts : List ℕ) (pool : List (List ℕ)) (numbers : List ℕ) → wellKept kinds counts pool numbers ≡ true → Kept kinds counts pool numbers
 unfolding wellKept
-lengths kinds xs ys numbers w =
-    let w₁ = and-r (eqb (length xs) (length kinds)) _ w in
-    let w₂ = and-r (eqb (length ys) (length kinds)) _ w₁ in
+kept kinds counts pool numbers w =
+    let rest = and-r (eqb (length counts) (length kinds)) _ w in
     record {
-      firsts = eqb-true (length xs) (length kinds) (and-l (eqb (length xs) (length kinds)) _ w);
-      seconds = eqb-true (length ys) (length kinds) (and-l (eqb (length ys) (length kinds)) _ w₁);
-      places = eqb-true (length numbers) (length kinds) (and-l (eqb (length numbers) (length kinds)) _ w₂);
+      counted = eqb-true (length counts) (length kinds) (and-l (eqb (length counts) (length kinds)) _ w);
+      places = eqb-true (length numbers) (length kinds) (and-l (eqb (length numbers) (length kinds)) _ rest);
+      calls = and-r (eqb (length numbers) (length kinds)) _ rest;
     }
 
 not-empty-done : NotEmpty ≡ Done → ⊥
@@ -45,8 +45,8 @@ not-empty-done e = let z : _≡_ {A = ℕ} 0 1 = cc in omega arith
 malformed-done : Malformed ≡ Done → ⊥
 malformed-done e = let z : _≡_ {A = ℕ} 0 1 = cc in omega arith
 
-module _ (calendar kinds xs ys register numbers : List ℕ) where
-  pub left-not-empty : isEmpty register ≡ false → Left calendar kinds xs ys register numbers register numbers NotEmpty
+module _ (calendar kinds counts : List ℕ) (pool : List (List ℕ)) (register numbers : List ℕ) where
+  pub left-not-empty : isEmpty register ≡ false → Left calendar kinds counts pool register numbers register numbers NotEmpty
   unfolding outcomeOf
   left-not-empty e = record {
     outcome-is = rw e;
@@ -56,7 +56,7 @@ module _ (calendar kinds xs ys register numbers : List ℕ) where
   }
 
   module _ (e : isEmpty register ≡ true) where
-    pub left-malformed : wellKept kinds xs ys numbers ≡ false → Left calendar kinds xs ys register numbers register numbers Malformed
+    pub left-malformed : wellKept kinds counts pool numbers ≡ false → Left calendar kinds counts pool register numbers register numbers Malformed
     unfolding outcomeOf
     left-malformed w = record {
       outcome-is = rw (e, w);
@@ -65,14 +65,14 @@ module _ (calendar kinds xs ys register numbers : List ℕ) where
       refused = λ n. (refl, refl);
     }
 
-    pub left-done : (after numbersAfter : List ℕ) → wellKept kinds xs ys numbers ≡ true
-        → after ≡ finalAt (rules calendar) (journal kinds xs ys) register
-        → numbersAfter ≡ numbersAt (rules calendar) (journal kinds xs ys) register
-        → Left calendar kinds xs ys register numbers after numbersAfter Done
+    pub left-done : (after numbersAfter : List ℕ) → wellKept kinds counts pool numbers ≡ true
+        → after ≡ finalAt (rules calendar) (journal kinds counts pool) register
+        → numbersAfter ≡ numbersAt (rules calendar) (journal kinds counts pool) register
+        → Left calendar kinds counts pool register numbers after numbersAfter Done
     unfolding outcomeOf
     left-done after numbersAfter w a n = record {
       outcome-is = rw (e, w);
       done = λ d. (a, n);
-      claim = λ d. rw (a, n, empty-is register e) (closing calendar (journal kinds xs ys));
+      claim = λ d. rw (a, n, empty-is register e) (closing calendar (journal kinds counts pool));
       refused = λ d. absurd (d refl);
     }

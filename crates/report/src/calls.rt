@@ -3,12 +3,28 @@ use crate::parts::Ladder;
 use crate::parts::announcements;
 use crate::parts::columns;
 use crate::parts::ladder_of;
+use layout::MOST_WAITING;
 use phrases::fill;
 
+// What a start or a session answers: how many rows it added and removed, and how many are listed now.
+pub struct Totals {
+    pub added: u32,
+    pub removed: u32,
+    pub rows: u32,
+}
+
 // What a start or a session did: the totals, the month that was dropped, what was taken in, then the live months.
-pub fn changes(out: &mut [u8], at: usize, calendar: &[u8], before: &[u8], after: &[u8]) -> usize {
+pub fn changes(
+    out: &mut [u8],
+    at: usize,
+    calendar: &[u8],
+    before: &[u8],
+    after: &[u8],
+    totals: Totals,
+) -> usize {
     let rows = reading::row_count(before);
-    let at = totals(out, at, calendar, before, after, rows);
+    let at = heading(out, at, reading::day(after), totals, rows);
+    let at = expired(out, at, calendar, before, totals.removed);
     let n = reading::waiting(before);
     let at = fill_where(
         out,
@@ -30,33 +46,25 @@ fn fill_where(out: &mut [u8], at: usize, holds: bool, form: &[u8], values: [u32;
     at
 }
 
-// How many rows went with the month that was the first live one before.
-fn removed(calendar: &[u8], before: &[u8], after: &[u8], month: u32) -> u32 {
-    if month == reading::first_live(calendar, after) {
-        return 0;
-    }
-    reading::size(rows::rows(calendar, before, month))
-}
-
-fn totals(
-    out: &mut [u8],
-    at: usize,
-    calendar: &[u8],
-    before: &[u8],
-    after: &[u8],
-    rows_before: u32,
-) -> usize {
-    let day = reading::day(after);
-    let added = reading::listed_on(reading::all_rows(after), day);
-    let rows = reading::row_count(after);
-    let month = reading::first_live(calendar, before);
-    let removed = removed(calendar, before, after, month);
-    let at = fill(
+fn heading(out: &mut [u8], at: usize, day: u32, totals: Totals, rows_before: u32) -> usize {
+    fill(
         out,
         at,
         b"%d: %n row%s added, %n removed, %n listed, %n before",
-        [day, added, added, removed, rows, rows_before],
-    );
+        [
+            day,
+            totals.added,
+            totals.added,
+            totals.removed,
+            totals.rows,
+            rows_before,
+        ],
+    )
+}
+
+// The rows that went are those of the month that was the first live one.
+fn expired(out: &mut [u8], at: usize, calendar: &[u8], before: &[u8], removed: u32) -> usize {
+    let month = reading::first_live(before);
     let expiry = lookup::lookup_expiry(calendar, month);
     fill_where(
         out,
@@ -82,9 +90,9 @@ fn ladders(
     );
     let mut place: u32 = 0;
     while place < 6 {
-        let month = reading::live_month(calendar, after, place);
-        let was = ladder_of(calendar, before, month);
-        let is = ladder_of(calendar, after, month);
+        let month = reading::live_month(after, place);
+        let was = ladder_of(before, month);
+        let is = ladder_of(after, month);
         at = columns(out, at, calendar, month, is);
         at = compared(out, at, change(was, is, started), was, is.new);
         place += 1;
@@ -127,7 +135,7 @@ fn compared(out: &mut [u8], at: usize, change: u32, was: Ladder, new: u32) -> us
     fill(out, at, form, [new, was.tier, was.low, was.high, 0, 0])
 }
 
-// What an announcement did, when what waits is introduced, and how much waits of the 32 that may.
+// What an announcement did, when what waits is introduced, and how much waits of what may.
 pub fn announced(
     out: &mut [u8],
     at: usize,
@@ -135,14 +143,20 @@ pub fn announced(
     register: &[u8],
     month: u32,
     price: u32,
+    waiting: u32,
 ) -> usize {
     let series = phrases::series(month, price);
     let next = reading::next_session(calendar, register);
-    let n = reading::waiting(register);
+    let at = fill(
+        out,
+        at,
+        b"announced: %m at %n, call %C, put %P\n  the session of %d introduces it; ",
+        [month, price, series, series, next, 0],
+    );
     fill(
         out,
         at,
-        b"announced: %m at %n, call %C, put %P\n  the session of %d introduces it; %n of 32 places taken until then\n",
-        [month, price, series, series, next, n],
+        b"%n of %n places taken until then\n",
+        [waiting, MOST_WAITING as u32, 0, 0, 0, 0],
     )
 }

@@ -2,23 +2,21 @@
 use crate::parts::announcements;
 use crate::parts::columns;
 use crate::parts::ladder_of;
-use base::causes;
 use phrases::fill;
 
-// The whole register. One that is refused by a cause from 11 to 15 has nothing to show.
+// The whole register, or how to start it where it is empty.
 pub fn show(out: &mut [u8], at: usize, calendar: &[u8], register: &[u8]) -> usize {
-    match reading::cause(calendar, register) {
-        0 => accepted(out, at, calendar, register),
-        causes::EMPTY => text::put(
+    if reading::row_count(register) == 0 {
+        return text::put(
             out,
             at,
             b"the register is empty: start it\n  sindhopul start CALENDAR REGISTER DAY CLOSE\n",
-        ),
-        _ => at,
+        );
     }
+    running(out, at, calendar, register)
 }
 
-fn accepted(out: &mut [u8], at: usize, calendar: &[u8], register: &[u8]) -> usize {
+fn running(out: &mut [u8], at: usize, calendar: &[u8], register: &[u8]) -> usize {
     let day = reading::day(register);
     let rows = reading::row_count(register);
     let n = reading::waiting(register);
@@ -47,8 +45,8 @@ fn ladders(out: &mut [u8], at: usize, calendar: &[u8], register: &[u8]) -> usize
     );
     let mut place: u32 = 0;
     while place < 6 {
-        let month = reading::live_month(calendar, register, place);
-        let ladder = ladder_of(calendar, register, month);
+        let month = reading::live_month(register, place);
+        let ladder = ladder_of(register, month);
         at = columns(out, at, calendar, month, ladder);
         at = fill(out, at, b"       %4", [ladder.new, 0, 0, 0, 0, 0]);
         place += 1;

@@ -10,13 +10,13 @@ pub struct Ladder {
     pub new: u32,
 }
 
-pub fn ladder_of(calendar: &[u8], register: &[u8], month: u32) -> Ladder {
-    let rows = rows::rows(calendar, register, month);
+pub fn ladder_of(register: &[u8], month: u32) -> Ladder {
+    let rows = reading::rows_of(register, month);
     Ladder {
-        tier: reading::tier(calendar, register, month),
+        tier: reading::tier(register, month),
         low: reading::lowest(rows),
         high: reading::highest(rows),
-        rows: reading::size(rows),
+        rows: reading::count(rows),
         new: reading::listed_on(rows, reading::day(register)),
     }
 }

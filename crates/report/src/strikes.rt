@@ -5,7 +5,7 @@ use reading::Row;
 
 // A month's rows, one to a line under a heading; nothing where the month is not live.
 pub fn rows(out: &mut [u8], at: usize, calendar: &[u8], register: &[u8], month: u32) -> usize {
-    let ladder = ladder_of(calendar, register, month);
+    let ladder = ladder_of(register, month);
     if ladder.rows == 0 {
         return at;
     }
@@ -22,11 +22,11 @@ pub fn rows(out: &mut [u8], at: usize, calendar: &[u8], register: &[u8], month: 
         b" from %4 to %4\nprice  first day   call         put          origin\n",
         [ladder.low, ladder.high, 0, 0, 0, 0],
     );
-    lines(out, at, rows::rows(calendar, register, month), ladder.rows)
+    row_lines(out, at, reading::rows_of(register, month), ladder.rows)
 }
 
 // The first n rows.
-fn lines(out: &mut [u8], at: usize, rows: &[u8], n: u32) -> usize {
+fn row_lines(out: &mut [u8], at: usize, rows: &[u8], n: u32) -> usize {
     let mut at = at;
     let mut i: u32 = 0;
     while i < n {
@@ -43,23 +43,18 @@ fn lines(out: &mut [u8], at: usize, rows: &[u8], n: u32) -> usize {
     at
 }
 
-// Every row whose first day is the register's day; nothing of a register that is empty or refused.
-pub fn added(out: &mut [u8], at: usize, calendar: &[u8], register: &[u8]) -> usize {
-    if reading::cause(calendar, register) != 0 {
-        return at;
-    }
-    let rows = reading::all_rows(register);
+// The n rows that the start or session of the register's day added.
+pub fn added(out: &mut [u8], at: usize, register: &[u8], n: u32) -> usize {
     let day = reading::day(register);
-    let n = reading::listed_on(rows, day);
     let at = fill(out, at, b"%d: %n row%s added\n", [day, n, n, 0, 0, 0]);
     if n == 0 {
         return at;
     }
-    added_lines(out, at, rows, day)
+    added_lines(out, at, reading::all_rows(register), day)
 }
 
 fn added_lines(out: &mut [u8], at: usize, rows: &[u8], day: u32) -> usize {
-    let n = reading::size(rows);
+    let n = reading::count(rows);
     let mut at = text::put(
         out,
         at,

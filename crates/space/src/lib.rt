@@ -1,24 +1,28 @@
 // Zeros for whole files and journals. Each contract tells the length: a caller's proof that counted the zeros of an array
 // would take by their number.
+use calendar::CALENDAR_LENGTH;
+use layout::REGISTER_LENGTH;
 ghost use mathlib.Core.Path.{_≡_};
 ghost use lib.ListN.{length};
+ghost use Rattle.calendar.specs.Calendar.{calendarLength};
+ghost use Rattle.layout.specs.Bytes.{registerLength};
 
 // A calendar.
-pub fn calendar() -> [u8; 4566]
-    ensures { λ r. ⌜ 4566 ≡ length r ⌝ }
+pub fn calendar() -> [u8; CALENDAR_LENGTH]
+    ensures { λ r. ⌜ calendarLength ≡ length r ⌝ }
 {
-    [0; 4566]
+    [0; CALENDAR_LENGTH]
 }
 
 // A register.
-pub fn register() -> [u8; 11264]
-    ensures { λ r. ⌜ 11264 ≡ length r ⌝ }
+pub fn register() -> [u8; REGISTER_LENGTH]
+    ensures { λ r. ⌜ registerLength ≡ length r ⌝ }
 {
-    [0; 11264]
+    [0; REGISTER_LENGTH]
 }
 
-// The longest answer: every row of a full register in words, or drawn.
-pub fn answer() -> [u8; 262144]
+// The longest text that is written out: every row of a full register in words, or drawn.
+pub fn output() -> [u8; 262144]
     ensures { λ r. ⌜ 262144 ≡ length r ⌝ }
 {
     [0; 262144]
@@ -38,18 +42,18 @@ pub fn journal() -> [u8; 4194304]
     [0; 4194304]
 }
 
-// The kinds of a journal's calls: a century of sessions and many announcements.
-pub fn kinds() -> [u8; 65536]
+// A byte for each of a journal's calls, its kind or the number of its pairs: a century of sessions and many announcements.
+pub fn call_bytes() -> [u8; 65536]
     ensures { λ r. ⌜ 65536 ≡ length r ⌝ }
 {
     [0; 65536]
 }
 
-// One of their two arguments.
-pub fn values() -> [u32; 65536]
+// Their pairs.
+pub fn pairs() -> [[u32; 2]; 65536]
     ensures { λ r. ⌜ 65536 ≡ length r ⌝ }
 {
-    [0; 65536]
+    [[0; 2]; 65536]
 }
 
 // Their numbers.

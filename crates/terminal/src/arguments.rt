@@ -125,14 +125,7 @@ fn complain_length(path: &[u8], wanted: usize, found: usize) {
         &mut out,
         0,
         b"the file has %n bytes and should have %n",
-        [
-            (found % 100000) as u32,
-            (wanted % 100000) as u32,
-            0,
-            0,
-            0,
-            0,
-        ],
+        [text::narrowed(found), text::narrowed(wanted), 0, 0, 0, 0],
     );
     files::complain(path, text::part(&out, 0, end));
 }

@@ -1,5 +1,4 @@
-// Finding one's way in a text: parts, lines, words, and the two-byte numbers of a register.
-ghost use Prim.Native.Nat.{_<_};
+// Finding one's way in a text: parts, lines, words.
 
 // The bytes from a to e, or none where they are no part.
 pub fn part(text: &[u8], a: usize, e: usize) -> &[u8] {
@@ -83,22 +82,4 @@ pub fn word_end(text: &[u8], from: usize) -> usize {
         i += 1;
     }
     text.len()
-}
-
-// The number in two bytes, low byte first; 0 past the end.
-pub fn halfword(bytes: &[u8], at: usize) -> u32 {
-    if at < bytes.len() {
-        let low = wide(bytes[at]);
-        let next = at + 1;
-        if next < bytes.len() {
-            return low + 256 * wide(bytes[next]);
-        }
-    }
-    0
-}
-
-fn wide(byte: u8) -> u32
-    ensures { λ r. ⌜ r < 256 ⌝ }
-{
-    byte as u32
 }

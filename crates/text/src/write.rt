@@ -2,8 +2,10 @@
 use dates::DAYS;
 use dates::MONTHS;
 
-// The place value of a 32-bit number's first digit.
+// The place value of a 32-bit number's first digit, and the greatest such number.
 const TOP: u32 = 1000000000;
+
+const GREATEST: usize = 4294967295;
 
 pub fn put_byte(out: &mut [u8], at: usize, byte: u8) -> usize {
     if at < out.len() {
@@ -46,6 +48,15 @@ pub fn digits(out: &mut [u8], at: usize, n: u32, place: u32, fill: u8) -> usize 
         place /= 10;
     }
     end
+}
+
+// A length or a place as it is told: the greatest number that is written where it is greater.
+pub fn narrowed(n: usize) -> u32 {
+    if n <= GREATEST {
+        n as u32
+    } else {
+        GREATEST as u32
+    }
 }
 
 pub fn number(out: &mut [u8], at: usize, n: u32) -> usize {

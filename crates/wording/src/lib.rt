@@ -32,9 +32,9 @@ pub fn refusal(
     let next = lookup::lookup_next_session(calendar, stands);
     if number <= causes::EMPTY {
         let length = if number <= causes::CALENDAR_MONTH {
-            opening::length(calendar)
+            text::narrowed(calendar.len())
         } else {
-            opening::length(register)
+            text::narrowed(register.len())
         };
         return opening::refusal(out, at, number, length, value, stands, next);
     }

@@ -5,17 +5,6 @@ use calendar::CALENDAR_LENGTH;
 use dates::DAYS;
 use layout::REGISTER_LENGTH;
 
-// The longest that is told as it is.
-const LONGEST: usize = 4294967295;
-
-pub fn length(bytes: &[u8]) -> u32 {
-    let n = bytes.len();
-    if n <= LONGEST {
-        return n as u32;
-    }
-    LONGEST as u32
-}
-
 fn letter(number: u16) -> u8 {
     match number {
         causes::CALENDAR_LENGTH => b'c',

@@ -19,8 +19,8 @@ pub fn months(first: u32) -> [u32; 6] {
 }
 
 // The six live months of the register's day.
-pub fn live_months(out: &mut [u8], at: usize, calendar: &[u8], register: &[u8]) -> usize {
-    let months = months(reading::first_live(calendar, register));
+pub fn live_months(out: &mut [u8], at: usize, register: &[u8]) -> usize {
+    let months = months(reading::first_live(register));
     fill(out, at, b"\n  live months: %m %m %m %m %m %m", months)
 }
 

@@ -2,8 +2,8 @@
 use crate::forms::tell;
 use crate::parts;
 use base::causes;
-use layout::MOST_WAITING;
 use phrases::fill;
+use layout::MOST_WAITING;
 use text::put;
 
 // 22 and 26. Of the live months only the first can expire on the register's day.
@@ -16,7 +16,7 @@ fn month_refused(
     stands: u32,
     month: u32,
 ) -> usize {
-    let first = reading::first_live(calendar, register);
+    let first = reading::first_live(register);
     let expiry = lookup::lookup_expiry(calendar, first);
     let letter = if number == causes::ROWS_MONTH {
         b'l'
@@ -36,7 +36,7 @@ fn month_refused(
         letter,
         [month, stands, expiry, 0, 0, 0],
     );
-    let at = parts::live_months(out, at, calendar, register);
+    let at = parts::live_months(out, at, register);
     if number == causes::ROWS_MONTH {
         return put(out, at, b"\n  ask for one of these\n");
     }
@@ -152,7 +152,7 @@ pub fn refusal(
         }
         causes::ANNOUNCE_PRICE => off_grid(out, at, calendar, next, month, price),
         _ => {
-            let rows = rows::rows(calendar, register, month);
+            let rows = reading::rows_of(register, month);
             price_refused(out, at, rows, number, next, month, price)
         }
     }

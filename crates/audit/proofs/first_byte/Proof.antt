@@ -6,10 +6,10 @@ use Rattle.audit.proofs.first_byte.Statement.{statement}
 use Rattle.audit.proofs.first_byte.Tie as tie
 
 abbrev Inv-loop : tie.InvT-loop
-Inv-loop a b from i₀ i = 0 ≤ i
+Inv-loop a b i₀ i = 0 ≤ i
 
 abbrev μ-loop : tie.MeasureT-loop
-μ-loop a b from i₀ i = length a - i
+μ-loop a b i₀ i = length a - i
 
 loop-holds : tie.Need-loop-holds Inv-loop μ-loop
 loop-holds c = search needs

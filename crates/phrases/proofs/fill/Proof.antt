@@ -1,3 +1,4 @@
+-- `phrases::fill` is safe and ends. Assumes nothing.
 use Prim.Native.Nat.{_-_}
 use lib.ListN.{length}
 use mathlib.Core.Path.{_≡_}
@@ -11,47 +12,36 @@ Inv-loop out₀ at form values end₀ place₀ before₀ i₀ out end place befo
 abbrev μ-loop : tie.MeasureT-loop
 μ-loop out₀ at form values end₀ place₀ before₀ i₀ out end place before i = length form - i
 
--- src/lib.rt:127:5
 loop-holds : tie.Need-loop-holds Inv-loop μ-loop
 loop-holds c = search needs
 
--- src/lib.rt:128:20
 shared-slice-read-byte : tie.Need-shared-slice-read-byte Inv-loop μ-loop
 shared-slice-read-byte c = search needs
 
--- src/lib.rt:129:45
 value-at-requires : tie.Need-value-at-requires Inv-loop μ-loop
 value-at-requires c κs = search needs
 
--- src/lib.rt:129:9
 piece-requires : tie.Need-piece-requires Inv-loop μ-loop
 piece-requires c κs = search needs
 
--- src/lib.rt:130:9
 next-place-requires : tie.Need-next-place-requires Inv-loop μ-loop
 next-place-requires c κs = search needs
 
--- src/lib.rt:131:9
 passed-requires : tie.Need-passed-requires Inv-loop μ-loop
 passed-requires c κs = search needs
 
--- src/lib.rt:132:9
 add-i : tie.Need-add-i Inv-loop μ-loop
 add-i c = search needs
 
--- src/lib.rt:127:5
 loop-less : tie.Need-loop-less Inv-loop μ-loop
 loop-less c = search needs
 
--- src/lib.rt:127:5
 loop-again : tie.Need-loop-again Inv-loop μ-loop
 loop-again c = search needs
 
--- src/lib.rt:122:1
 same-length : tie.Need-same-length Inv-loop μ-loop
 same-length c = search needs
 
--- src/lib.rt:122:1
 returns : tie.Need-returns Inv-loop μ-loop
 returns c = search needs
 

@@ -12,8 +12,8 @@ Inv-loop rows day end n₀ i₀ n i = (i ≤ end) × (n ≤ i)
 abbrev μ-loop : tie.MeasureT-loop
 μ-loop rows day end n₀ i₀ n i = end - i
 
-size-requires : tie.Need-size-requires Inv-loop μ-loop
-size-requires c κs = search needs
+count-requires : tie.Need-count-requires Inv-loop μ-loop
+count-requires c κs = search needs
 
 loop-holds : tie.Need-loop-holds Inv-loop μ-loop
 loop-holds c = search needs
@@ -42,7 +42,7 @@ listed-on-spec =
     (tie.spec
     Inv-loop
     μ-loop
-    size-requires
+    count-requires
     loop-holds
     row-at-requires
     add-n

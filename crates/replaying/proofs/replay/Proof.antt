@@ -3,7 +3,7 @@
 use mathlib.Core.Path.{sym, _∙_}
 use borrow.Author.Needs.{needs}
 use borrow.Author.Tests.{not-true, not-false}
-use Rattle.replaying.proofs.Outcomes.{lengths, left-not-empty, left-malformed, left-done}
+use Rattle.replaying.proofs.Outcomes.{left-not-empty, left-malformed, left-done}
 use Rattle.replaying.proofs.replay.Statement.{statement}
 use Rattle.replaying.proofs.replay.Tie as tie
 
@@ -32,9 +32,7 @@ returns-2 c =
     (sym (c .before .well-kept .ensures) ∙ not-true _ (c .if2 .taken))
 
 run-requires : tie.Need-run-requires
-run-requires c κs =
-    let l = lengths _ _ _ _ (sym (c .before .before .before .well-kept .ensures) ∙ not-false _ (c .before .before .if2 .left)) in
-    (l .firsts, l .seconds, l .places)
+run-requires c κs = sym (c .before .before .before .well-kept .ensures) ∙ not-false _ (c .before .before .if2 .left)
 
 same-length-4 : tie.Need-same-length-4
 same-length-4 c = search needs

@@ -1,3 +1,4 @@
+-- `inquiry::next::reaching_close` is safe and ends. Assumes nothing.
 use Prim.Native.Nat.{_≤_, _-_}
 use borrow.Author.Needs.{needs}
 use Rattle.inquiry.proofs.next.reaching_close.Statement.{statement}
@@ -9,47 +10,36 @@ Inv-loop tier price is-above low₀ high₀ low high = (low ≤ high) × (high �
 abbrev μ-loop : tie.MeasureT-loop
 μ-loop tier price is-above low₀ high₀ low high = high - low
 
--- src/next.rt:23:20
 add-high : tie.Need-add-high Inv-loop μ-loop
 add-high c = search needs
 
--- src/next.rt:24:5
 loop-holds : tie.Need-loop-holds Inv-loop μ-loop
 loop-holds c = search needs
 
--- src/next.rt:25:28
 sub-close : tie.Need-sub-close Inv-loop μ-loop
 sub-close c = search needs
 
--- src/next.rt:25:21
 add-close : tie.Need-add-close Inv-loop μ-loop
 add-close c = search needs
 
--- src/next.rt:26:12
 reaches-requires : tie.Need-reaches-requires Inv-loop μ-loop
 reaches-requires c κs = search needs
 
--- src/next.rt:24:5
 loop-less : tie.Need-loop-less Inv-loop μ-loop
 loop-less c = search needs
 
--- src/next.rt:24:5
 loop-again : tie.Need-loop-again Inv-loop μ-loop
 loop-again c = search needs
 
--- src/next.rt:29:19
 add-low : tie.Need-add-low Inv-loop μ-loop
 add-low c = search needs
 
--- src/next.rt:24:5
 loop-less-2 : tie.Need-loop-less-2 Inv-loop μ-loop
 loop-less-2 c = search needs
 
--- src/next.rt:24:5
 loop-again-2 : tie.Need-loop-again-2 Inv-loop μ-loop
 loop-again-2 c = search needs
 
--- src/next.rt:21:1
 returns : tie.Need-returns Inv-loop μ-loop
 returns c = search needs
 

@@ -1,3 +1,4 @@
+-- `inquiry::next::waiting_within` is safe and ends. Assumes nothing.
 use Prim.Native.Nat.{_≤_, _-_}
 use borrow.Author.Needs.{needs}
 use Rattle.inquiry.proofs.next.waiting_within.Statement.{statement}
@@ -9,35 +10,27 @@ Inv-loop register month low high end i₀ i = i ≤ end
 abbrev μ-loop : tie.MeasureT-loop
 μ-loop register month low high end i₀ i = end - i
 
--- src/next.rt:62:9
 waiting-requires : tie.Need-waiting-requires Inv-loop μ-loop
 waiting-requires c κs = search needs
 
--- src/next.rt:64:5
 loop-holds : tie.Need-loop-holds Inv-loop μ-loop
 loop-holds c = search needs
 
--- src/next.rt:65:13
 announcement-at-requires : tie.Need-announcement-at-requires Inv-loop μ-loop
 announcement-at-requires c κs = search needs
 
--- src/next.rt:68:17
 returns : tie.Need-returns Inv-loop μ-loop
 returns c = search needs
 
--- src/next.rt:71:9
 add-i : tie.Need-add-i Inv-loop μ-loop
 add-i c = search needs
 
--- src/next.rt:64:5
 loop-less : tie.Need-loop-less Inv-loop μ-loop
 loop-less c = search needs
 
--- src/next.rt:64:5
 loop-again : tie.Need-loop-again Inv-loop μ-loop
 loop-again c = search needs
 
--- src/next.rt:61:1
 returns-2 : tie.Need-returns-2 Inv-loop μ-loop
 returns-2 c = search needs
 

@@ -9,10 +9,10 @@ use Rattle.journal.proofs.input.read.Statement.{statement}
 use Rattle.journal.proofs.input.read.Tie as tie
 
 abbrev Inv-loop : tie.InvT-loop
-Inv-loop text kinds₀ xs₀ ys₀ told₀ n₀ line₀ start₀ i₀ kinds xs ys told n line start i = (i ≤ length text) × (length kinds ≡ length kinds₀) × (length xs ≡ length xs₀) × (length ys ≡ length ys₀) × (length told ≡ length told₀)
+Inv-loop text kinds₀ counts₀ pool₀ told₀ taken₀ line₀ start₀ i₀ kinds counts pool told taken line start i = (i ≤ length text) × (length kinds ≡ length kinds₀) × (length counts ≡ length counts₀) × (length pool ≡ length pool₀) × (length told ≡ length told₀)
 
 abbrev μ-loop : tie.MeasureT-loop
-μ-loop text kinds₀ xs₀ ys₀ told₀ n₀ line₀ start₀ i₀ kinds xs ys told n line start i = length text - i
+μ-loop text kinds₀ counts₀ pool₀ told₀ taken₀ line₀ start₀ i₀ kinds counts pool told taken line start i = length text - i
 
 loop-holds : tie.Need-loop-holds Inv-loop μ-loop
 loop-holds c = search needs
@@ -61,7 +61,7 @@ loop-less c = search needs
 
 loop-again : tie.Need-loop-again Inv-loop μ-loop
 loop-again c =
-    ⊎-elim (λ w. (omega arith, omega (arith, ap length (w .19), w .7 .given), omega (arith, ap length (w .20), w .9 .given), omega (arith, ap length (w .21), w .11 .given), omega (arith, ap length (w .22), w .13 .given)))
+    ⊎-elim (λ w. (omega arith, omega (arith, ap length (w .18), w .7 .given), omega (arith, ap length (w .19), w .9 .given), omega (arith, ap length (w .20), w .11 .given), omega (arith, ap length (w .21), w .12 .given)))
     (λ w. (omega arith, search needs, search needs, search needs, search needs))
     (c .if1 .came)
 

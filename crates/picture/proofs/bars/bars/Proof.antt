@@ -1,3 +1,4 @@
+-- `picture::bars::bars` is safe and ends. Assumes nothing.
 use Prim.Native.Nat.{_≤_, _-_}
 use lib.ListN.{length}
 use mathlib.Core.Path.{_≡_}
@@ -11,47 +12,36 @@ Inv-loop out₀ at rows scale day end at₀ i₀ out at' i = (length out ≡ len
 abbrev μ-loop : tie.MeasureT-loop
 μ-loop out₀ at rows scale day end at₀ i₀ out at' i = end - i
 
--- src/bars.rt:63:9
-size-requires : tie.Need-size-requires Inv-loop μ-loop
-size-requires c κs = search needs
+count-requires : tie.Need-count-requires Inv-loop μ-loop
+count-requires c κs = search needs
 
--- src/bars.rt:66:5
 loop-holds : tie.Need-loop-holds Inv-loop μ-loop
 loop-holds c = search needs
 
--- src/bars.rt:67:13
 row-at-requires : tie.Need-row-at-requires Inv-loop μ-loop
 row-at-requires c κs = search needs
 
--- src/bars.rt:68:43
 beside-requires : tie.Need-beside-requires Inv-loop μ-loop
 beside-requires c κs = search needs
 
--- src/bars.rt:68:13
 row-at-requires-2 : tie.Need-row-at-requires-2 Inv-loop μ-loop
 row-at-requires-2 c κs = search needs
 
--- src/bars.rt:69:9
 bar-requires : tie.Need-bar-requires Inv-loop μ-loop
 bar-requires c κs = search needs
 
--- src/bars.rt:70:9
 add-i : tie.Need-add-i Inv-loop μ-loop
 add-i c = search needs
 
--- src/bars.rt:66:5
 loop-less : tie.Need-loop-less Inv-loop μ-loop
 loop-less c = search needs
 
--- src/bars.rt:66:5
 loop-again : tie.Need-loop-again Inv-loop μ-loop
 loop-again c = search needs
 
--- src/bars.rt:62:1
 same-length : tie.Need-same-length Inv-loop μ-loop
 same-length c = search needs
 
--- src/bars.rt:62:1
 returns : tie.Need-returns Inv-loop μ-loop
 returns c = search needs
 
@@ -61,7 +51,7 @@ bars-spec =
     (tie.spec
     Inv-loop
     μ-loop
-    size-requires
+    count-requires
     loop-holds
     row-at-requires
     beside-requires

@@ -12,8 +12,8 @@ Inv-loop out₀ at rows day n at₀ i₀ out at' i = length out ≡ length out�
 abbrev μ-loop : tie.MeasureT-loop
 μ-loop out₀ at rows day n at₀ i₀ out at' i = n - i
 
-size-requires : tie.Need-size-requires Inv-loop μ-loop
-size-requires c κs = search needs
+count-requires : tie.Need-count-requires Inv-loop μ-loop
+count-requires c κs = search needs
 
 slice-aggregate-put : tie.Need-slice-aggregate-put Inv-loop μ-loop
 slice-aggregate-put c = search needs
@@ -51,7 +51,7 @@ added-lines-spec =
     (tie.spec
     Inv-loop
     μ-loop
-    size-requires
+    count-requires
     slice-aggregate-put
     put-requires
     loop-holds

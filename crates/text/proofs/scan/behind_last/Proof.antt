@@ -1,3 +1,4 @@
+-- `text::scan::behind_last` is safe and ends. Assumes nothing.
 use Prim.Native.Nat.{_≤_, _-_}
 use lib.ListN.{length}
 use borrow.Author.Needs.{needs}
@@ -10,31 +11,24 @@ Inv-loop text byte end₀ i₀ end i = 0 ≤ i
 abbrev μ-loop : tie.MeasureT-loop
 μ-loop text byte end₀ i₀ end i = length text - i
 
--- src/scan.rt:49:5
 loop-holds : tie.Need-loop-holds Inv-loop μ-loop
 loop-holds c = search needs
 
--- src/scan.rt:50:12
 shared-slice-read-if1 : tie.Need-shared-slice-read-if1 Inv-loop μ-loop
 shared-slice-read-if1 c = search needs
 
--- src/scan.rt:51:19
 add-end : tie.Need-add-end Inv-loop μ-loop
 add-end c = search needs
 
--- src/scan.rt:53:9
 add-i : tie.Need-add-i Inv-loop μ-loop
 add-i c = search needs
 
--- src/scan.rt:49:5
 loop-less : tie.Need-loop-less Inv-loop μ-loop
 loop-less c = search needs
 
--- src/scan.rt:49:5
 loop-again : tie.Need-loop-again Inv-loop μ-loop
 loop-again c = search needs
 
--- src/scan.rt:46:1
 returns : tie.Need-returns Inv-loop μ-loop
 returns c = search needs
 

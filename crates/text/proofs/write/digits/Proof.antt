@@ -1,3 +1,4 @@
+-- `text::write::digits` is safe and ends. Assumes nothing.
 use lib.ListN.{length}
 use mathlib.Core.Path.{_≡_}
 use borrow.Author.Needs.{needs}
@@ -10,27 +11,21 @@ Inv-loop out₀ at n place fill end₀ place₀ out end place' = length out ≡ 
 abbrev μ-loop : tie.MeasureT-loop
 μ-loop out₀ at n place fill end₀ place₀ out end place' = place'
 
--- src/write.rt:44:5
 loop-holds : tie.Need-loop-holds Inv-loop μ-loop
 loop-holds c = search needs
 
--- src/write.rt:45:9
 digit-requires : tie.Need-digit-requires Inv-loop μ-loop
 digit-requires c κs = search needs
 
--- src/write.rt:44:5
 loop-less : tie.Need-loop-less Inv-loop μ-loop
 loop-less c = search needs
 
--- src/write.rt:44:5
 loop-again : tie.Need-loop-again Inv-loop μ-loop
 loop-again c = search needs
 
--- src/write.rt:41:1
 same-length : tie.Need-same-length Inv-loop μ-loop
 same-length c = search needs
 
--- src/write.rt:41:1
 returns : tie.Need-returns Inv-loop μ-loop
 returns c = search needs
 

@@ -1,10 +1,10 @@
--- `holidays::open` meets its contract; past the end the list's update changes nothing. Assumes nothing.
+-- `holidays::set_session` meets its contract; past the end the list's update changes nothing. Assumes nothing.
 use mathlib.Core.Path.{sym}
 use lib.Seq.{set-out}
 use borrow.Author.Needs.{needs}
-use Rattle.holidays.specs.Sessions.{opened}
-use Rattle.holidays.proofs.open.Statement.{statement}
-use Rattle.holidays.proofs.open.Tie as tie
+use Rattle.holidays.specs.Sessions.{withSession}
+use Rattle.holidays.proofs.set_session.Statement.{statement}
+use Rattle.holidays.proofs.set_session.Tie as tie
 
 cast-at : tie.Need-cast-at
 cast-at c = search needs
@@ -22,15 +22,15 @@ same-length : tie.Need-same-length
 same-length c = search needs
 
 returns : tie.Need-returns
-unfolding opened
+unfolding withSession
 returns c = rw (c .weight .ensures)
 
 returns-2 : tie.Need-returns-2
-unfolding opened
+unfolding withSession
 returns-2 c = sym (set-out _ _ _ (c .if1 .left))
 
-pub open-spec : {M : Type 1} → statement M
-open-spec =
+pub set-session-spec : {M : Type 1} → statement M
+set-session-spec =
     tie.close
     (tie.spec
     cast-at

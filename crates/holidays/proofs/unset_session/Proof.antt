@@ -1,10 +1,10 @@
--- `holidays::close` meets its contract; past the end the list's update changes nothing. Assumes nothing.
+-- `holidays::unset_session` meets its contract; past the end the list's update changes nothing. Assumes nothing.
 use mathlib.Core.Path.{sym}
 use lib.Seq.{set-out}
 use borrow.Author.Needs.{needs}
-use Rattle.holidays.specs.Sessions.{closed}
-use Rattle.holidays.proofs.close.Statement.{statement}
-use Rattle.holidays.proofs.close.Tie as tie
+use Rattle.holidays.specs.Sessions.{withoutSession}
+use Rattle.holidays.proofs.unset_session.Statement.{statement}
+use Rattle.holidays.proofs.unset_session.Tie as tie
 
 cast-at : tie.Need-cast-at
 cast-at c = search needs
@@ -22,15 +22,15 @@ same-length : tie.Need-same-length
 same-length c = search needs
 
 returns : tie.Need-returns
-unfolding closed
+unfolding withoutSession
 returns c = rw (c .weight .ensures)
 
 returns-2 : tie.Need-returns-2
-unfolding closed
+unfolding withoutSession
 returns-2 c = sym (set-out _ _ _ (c .if1 .left))
 
-pub close-spec : {M : Type 1} → statement M
-close-spec =
+pub unset-session-spec : {M : Type 1} → statement M
+unset-session-spec =
     tie.close
     (tie.spec
     cast-at

@@ -1,4 +1,4 @@
--- `holidays::open_weekdays` meets its contract: the weekdays before the loop's day have their sessions. Assumes nothing.
+-- `holidays::set_weekdays` meets its contract: the weekdays before the loop's day have their sessions. Assumes nothing.
 use Prim.Native.Nat.{ℕ, _≤_, _<_, _-_, _/_}
 use mathlib.Core.Path.{_≡_, sym, ap, _∙_}
 use mathlib.Core.Bool.{Bool, _&&_, _||_}
@@ -10,9 +10,9 @@ use lib.ListN.{length}
 use borrow.Author.Needs.{needs}
 use Rattle.calendar.specs.Calendar.{session}
 use Rattle.holidays.specs.Sessions.{weekday}
-use Rattle.holidays.proofs.SessionLaws.{opened-session, none-yet, grown, stayed}
-use Rattle.holidays.proofs.open_weekdays.Statement.{statement}
-use Rattle.holidays.proofs.open_weekdays.Tie as tie
+use Rattle.holidays.proofs.SessionLaws.{set-session, none-yet, grown, stayed}
+use Rattle.holidays.proofs.set_weekdays.Statement.{statement}
+use Rattle.holidays.proofs.set_weekdays.Tie as tie
 
 abbrev Inv-loop : tie.InvT-loop
 Inv-loop calendar₀ day₀ calendar day = (day ≤ 36525) × (length calendar ≡ length calendar₀) × ((n : ℕ) → session calendar n ≡ (ltb n day && weekday n))
@@ -33,8 +33,8 @@ cast-loop c = search needs
 is-weekday-requires : tie.Need-is-weekday-requires Inv-loop μ-loop
 is-weekday-requires c κs = search needs
 
-open-requires : tie.Need-open-requires Inv-loop μ-loop
-open-requires c κs = search needs
+set-session-requires : tie.Need-set-session-requires Inv-loop μ-loop
+set-session-requires c κs = search needs
 
 add-day : tie.Need-add-day Inv-loop μ-loop
 add-day c = search needs
@@ -51,7 +51,7 @@ loop-again c =
       ⊎-elim (λ w. search needs) (λ w. search needs) (c .if1 .came),
       λ n. ⊎-elim
           (λ w. ap (λ (x : List ℕ). session x n) (w .5 ∙ w .2 .ensures)
-          ∙ opened-session (l .calendar) (l .day) n inside
+          ∙ set-session (l .calendar) (l .day) n inside
           ∙ ap (λ (b : Bool). eqb n (l .day) || b) (l .inv .2 n)
           ∙ grown weekday n (l .day) (told ∙ w .0 .taken))
           (λ w. ap (λ (x : List ℕ). session x n) (w .1) ∙ l .inv .2 n ∙ stayed weekday n (l .day) (told ∙ w .0 .left))
@@ -64,8 +64,8 @@ same-length c = search needs
 returns : tie.Need-returns Inv-loop μ-loop
 returns c n = let e : c .before .loop .day ≡ 36525 = omega arith in rw e at (c .before .loop .inv .2 n)
 
-pub open-weekdays-spec : {M : Type 1} → statement M
-open-weekdays-spec =
+pub set-weekdays-spec : {M : Type 1} → statement M
+set-weekdays-spec =
     tie.close
     (tie.spec
     Inv-loop
@@ -74,7 +74,7 @@ open-weekdays-spec =
     loop-holds
     cast-loop
     is-weekday-requires
-    open-requires
+    set-session-requires
     add-day
     loop-less
     loop-again

@@ -1,10 +1,10 @@
--- `report::strikes::lines` is safe and ends. Assumes nothing.
+-- `report::strikes::row_lines` is safe and ends. Assumes nothing.
 use Prim.Native.Nat.{_-_}
 use lib.ListN.{length}
 use mathlib.Core.Path.{_≡_}
 use borrow.Author.Needs.{needs}
-use Rattle.report.proofs.strikes.lines.Statement.{statement}
-use Rattle.report.proofs.strikes.lines.Tie as tie
+use Rattle.report.proofs.strikes.row_lines.Statement.{statement}
+use Rattle.report.proofs.strikes.row_lines.Tie as tie
 
 abbrev Inv-loop : tie.InvT-loop
 Inv-loop out₀ at rows n at₀ i₀ t9 out at' i = length out ≡ length out₀
@@ -42,8 +42,8 @@ same-length c = search needs
 returns : tie.Need-returns Inv-loop μ-loop
 returns c = search needs
 
-pub lines-spec : {M : Type 1} → statement M
-lines-spec =
+pub row-lines-spec : {M : Type 1} → statement M
+row-lines-spec =
     tie.close
     (tie.spec
     Inv-loop
