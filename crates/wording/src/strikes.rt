@@ -2,8 +2,8 @@
 use crate::forms::tell;
 use crate::parts;
 use base::causes;
-use phrases::fill;
 use layout::MOST_WAITING;
+use phrases::fill;
 use text::put;
 
 // 22 and 26. Of the live months only the first can expire on the register's day.
