@@ -1,6 +1,6 @@
 -- `announcing::announce_cause` meets its contract: what the leaves find decides the causes in the table's order.
 -- Assumes nothing.
-use mathlib.Core.Path.{_≡_, _∙_}
+use mathlib.Core.Path.{_≡_}
 use mathlib.Core.List.{List}
 use Prim.Native.Nat.{ℕ, _≤_}
 use native.Mathlib.Omega.{arith}
