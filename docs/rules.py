@@ -3,7 +3,7 @@
 
 docs/rules.py --check   each definition that RULES.md names stands in the file named beside it; RULES.md names every definition that
                         the contract of an entry point of READING.md rests on; READING.md names every file of definitions, and no
-                        document names one that is not there.
+                        document names one that is not there; the causes in RULES.md, call by call, are those of causes.txt.
 docs/rules.py --write   puts the file of each definition that has moved right in RULES.md.
 """
 import glob
@@ -12,11 +12,15 @@ import re
 import sys
 
 ROOT = os.path.dirname(os.path.dirname(os.path.abspath(__file__)))
+sys.path.insert(0, ROOT)
+sys.dont_write_bytecode = True
+import causes
 DEFINITION = re.compile(r"^\s*(?:unfoldable|abbrev) pub (\S+) :|^pub (?:record|data) (\S+)")
 IMPORT = re.compile(r"^(?:ghost |pub )?use Rattle·([a-z_]+)(?:·specs)?\.specs\.(\w+)(?:\.\{([^}]*)\}| as (\w+))")
 WORD = re.compile(r"[^\s(){}\[\],;`⌜⌝]+")
 CITED = re.compile(r"\[`([a-z_]+/specs/\w+\.antt)`: ((?:`[^`]+`(?:, )?)+)\]")
 FILE = re.compile(r"`(?:crates/)?([a-z_]+/specs/\w+\.antt)`")
+TRIED = re.compile(r"^\| `(\w+)` \| (\d+(?:, \d+)*) \|$", re.M)
 # Documents that speak of what is so now; landing notes and decisions speak of their day.
 NOW = ["README.md", "CONTRIBUTING.md", "docs/READING.md", "docs/FORMAT.md", "docs/ARCHITECTURE.md"]
 
@@ -139,6 +143,12 @@ def check():
     for document in NOW:
         for file in sorted(set(FILE.findall(read(document))) - files):
             fault(f"{document}: there is no {file}")
+    told = {call: [int(number) for number in numbers.split(", ")] for call, numbers in TRIED.findall(rules)}
+    for call in causes.read_table(read("causes.txt")).calls:
+        if told.pop(call.name, None) != call.numbers[1:]:
+            fault(f"RULES.md has other causes for {call.name} than causes.txt: {call.numbers[1:]}")
+    for call in told:
+        fault(f"RULES.md has causes for {call}, which is no call of causes.txt")
     for words in FAULTS:
         print(words)
     print(f"{len(cited)} definitions named by RULES.md, {len(wanted)} rested on by contracts, {len(FAULTS)} faults")
