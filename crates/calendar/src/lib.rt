@@ -15,6 +15,9 @@ ghost use Rattle.calendar.specs.Live.{firstLive, liveMonths, tierOf};
 // A calendar's length in bytes.
 pub const CALENDAR_LENGTH: usize = 4566;
 
+// Its last byte, of whose bits three lie after the last day.
+const LAST_BYTE: usize = 4565;
+
 // The answer of the calendar's check: the cause's number, or 0, and the month that cause 13 names.
 #[repr(C)]
 pub struct Checked {
@@ -126,7 +129,7 @@ pub fn check(calendar: &[u8]) -> Checked
             month: 0,
         };
     }
-    if 32 <= calendar[4565] {
+    if 32 <= calendar[LAST_BYTE] {
         return Checked {
             number: causes::CALENDAR_TAIL,
             month: 0,

@@ -186,7 +186,7 @@ fn write_ladder(rest: &mut [u8], old: &[u8], plan: Plan) -> Written
             stretch.first,
             stretch.origin,
         );
-        at += 8;
+        at += ROW_LENGTH;
         price += stretch.step;
     }
     Written {
