@@ -1,4 +1,4 @@
-// Announce on the register's bytes, and each of the three calls by its kind.
+// Announce on the register's bytes.
 use base::causes;
 use calls::Told;
 use layout::DAY;

@@ -12,7 +12,7 @@ use borrow.Author.Tests.{eqb-true, leb-true, not-false}
 use Rattle.base.specs.Lists.{elem, select, within}
 use Rattle.base.specs.Causes.{firstOf}
 use Rattle.base.proofs.Tests.{byBool, and-l, and-r, and-i, or-fl}
-use Rattle.base.proofs.ListLaws.{elem-here, elem-there}
+use Rattle.base.proofs.ListLaws.{elem-here, elem-there, select-count}
 use Rattle.base.proofs.CauseLaws.{none-of, not-cause}
 use Rattle.rules.specs.Rules.{Moment, Rules, next, lastFirstMonth}
 use Rattle.rules.specs.Rulebook.{rules}
@@ -36,15 +36,10 @@ use Rattle.history.proofs.Sound.{Sound, SoundReg, sound-accept, well}
 
 -- ---- what is reached fits its bytes
 
-pub select-le : (f : ℕ → Bool) (xs : List ℕ) → length (select f xs) ≤ length xs
-unfolding select
-select-le f [] = omega arith
-select-le f (x ∷ xs) = let h = select-le f xs in byBool (f x) (λ e. rw e (omega arith)) (λ e. rw e (omega arith))
-
 pub total-listed : (f : ℕ → ℕ → Bool) (G : ℕ → List ℕ) (L : List ℕ) → total (λ m. select (f m) (G m)) L ≤ total G L
 unfolding total
 total-listed f G [] = omega arith
-total-listed f G (m ∷ ms) = let h = total-listed f G ms in let k = select-le (f m) (G m) in omega arith
+total-listed f G (m ∷ ms) = let h = total-listed f G ms in let k = select-count (f m) (G m) in omega arith
 
 pub rows-total : (L : List ℕ) (G : ℕ → List ℕ) (f : ℕ → ℕ → Entry) → length (rowsOf L G f) ≡ total G L
 unfolding rowsOf total

@@ -1,7 +1,7 @@
 -- The loop of `write_ladders`: what it keeps, what a turn does, and what the rows and the zeros behind them make.
 -- Assumes nothing.
 use mathlib.Core.Path.{_≡_, refl, sym, ap, _∙_}
-use mathlib.Core.List.{List, [], _∷_, _++_, append-assoc}
+use mathlib.Core.List.{List, _++_, append-assoc}
 use Prim.Native.Nat.{ℕ, zero, suc, _+_, _-_, _*_, _≤_, _<_}
 use native.Mathlib.Numerals.{add-one}
 use native.Mathlib.Omega.{arith}
@@ -10,17 +10,11 @@ use lib.Seq.{take-at, drop-at, drop-drop, take-all, length-take-le}
 use borrow.Rule.Slice.PartMut.{putMid}
 use Rattle.layout.specs.Rows.{Row}
 use Rattle.layout.specs.Bytes.{registerLength, rowsBytes, padded, rowsFrom, rowsLength}
-use Rattle.base.specs.Words.{two}
-use Rattle.layout.proofs.ByteLaws.{rows-length}
+use Rattle.layout.proofs.ByteLaws.{rows-length, rows-append}
 use Rattle.ladders.specs.declared.Plan.{Plan}
 use Rattle.ladders.specs.Writing.{rowsIn, pricesIn, ladderBy, leftBy, laddersFrom, countFrom, Ready}
 use Rattle.base.proofs.Parts.{whole-part, put-rest, put-next, drop-next}
 use Rattle.ladders.proofs.Ladder.{ladder-count}
-
-pub rows-append : (xs ys : List Row) → rowsBytes (xs ++ ys) ≡ rowsBytes xs ++ rowsBytes ys
-unfolding rowsBytes two
-rows-append [] ys = refl
-rows-append (x ∷ xs) ys = rw (rows-append xs ys)
 
 pub ladders-count : (plans : ℕ → Plan) (i n : ℕ) (old : List Row) → length (laddersFrom plans i n old) ≡ countFrom plans i n
 unfolding laddersFrom countFrom

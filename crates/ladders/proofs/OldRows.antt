@@ -1,11 +1,10 @@
 -- Old rows are taken up one by one from the front of their bytes.
 -- Assumes nothing.
 use mathlib.Core.Path.{_≡_, refl, sym}
-use mathlib.Core.Bool.{true, false, _&&_}
+use mathlib.Core.Bool.{true, false}
 use mathlib.Core.List.{List, [], _∷_}
 use Prim.Native.Nat.{ℕ, suc, _-_, _/_, _≤_, _<_}
 use native.Mathlib.Omega.{arith}
-use lib.Dec.{eqb}
 use lib.ListN.{length, getD, drop, length-drop}
 use Rattle.base.proofs.Tests.{byLe, clash}
 use Rattle.layout.specs.Rows.{newEntry, Row, row}

@@ -191,3 +191,8 @@ places-some bs at zero h = absurd (omega arith)
 places-some bs at (suc n) h =
     let e : suc n - 1 ≡ n = omega arith in
     rw (at16-drop bs at 0, at16-drop bs at 2, drop-drop 4 at bs, add-zero at, e)
+
+pub rows-append : (xs ys : List Row) → rowsBytes (xs ++ ys) ≡ rowsBytes xs ++ rowsBytes ys
+unfolding rowsBytes two
+rows-append [] ys = refl
+rows-append (x ∷ xs) ys = rw (rows-append xs ys)

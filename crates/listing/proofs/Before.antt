@@ -21,12 +21,11 @@ use Rattle.layout.specs.Rows.{Row}
 use Rattle.layout.specs.Register.{Body, waitingOf, announceCauses, waitingOk}
 use Rattle.layout.specs.Bytes.{registerLength, placesBytes, rowsBytes, padded, bodyBytes, readPlaces, readRows, momentOf, bodyOf, rowsFrom, rowsLength, placesLength}
 use Rattle.base.specs.Words.{two, at16}
-use Rattle.layout.proofs.ByteLaws.{places-length, rows-length, padded-length, places-count, rows-count}
+use Rattle.layout.proofs.ByteLaws.{places-length, rows-length, padded-length, places-count, rows-count, rows-append}
 use Rattle.layout.proofs.Held.{Held, Facts}
 use Rattle.layout.proofs.Running.{Running}
 use Rattle.register.proofs.Well.{run-keeps, run-held}
 use Rattle.ladders.specs.Writing.{rowsIn}
-use Rattle.ladders.proofs.Ladders.{rows-append}
 
 -- ---- bytes of rows read back
 word-back : (n : ℕ) → n % 256 + 256 * (n / 256) ≡ n

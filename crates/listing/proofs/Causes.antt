@@ -1,4 +1,4 @@
--- The causes of a call, one after the other.
+-- The own causes of a start and of a session, one after the other.
 -- Assumes nothing.
 use mathlib.Core.Path.{_≡_, ap, _∙_}
 use mathlib.Core.Bool.{true, false, not, _&&_}

@@ -1,5 +1,4 @@
--- Counts of rows: those that a day has added, of which it is the first day, where old rows have earlier first days; those of a
--- dropped month; those of a ladder of tier N.
+-- Counts of the rows that a day has added, of which it is the first day, where old rows have earlier first days.
 -- Assumes nothing.
 use mathlib.Core.Path.{_≡_, refl}
 use mathlib.Core.Bool.{true, false, false≢true}

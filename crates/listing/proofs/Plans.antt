@@ -1,7 +1,7 @@
 -- Plans of the live months: they can be carried out, and their prices ascend.
 -- Assumes nothing.
 use mathlib.Core.Path.{_≡_, sym}
-use mathlib.Core.Bool.{Bool, true, false≢true}
+use mathlib.Core.Bool.{true, false≢true}
 use mathlib.Core.List.{List, [], _∷_}
 use Prim.Native.Nat.{ℕ, zero, suc, _≤_, _<_}
 use native.Mathlib.Nat.{zero-add, le-of-suc-le-suc, not-suc-le-zero}
@@ -9,9 +9,9 @@ use native.Mathlib.Omega.{arith}
 use lib.Dec.{eqb}
 use lib.ListN.{length, getD}
 use borrow.Author.Tests.{eqb-true}
-use Rattle.base.specs.Lists.{elem, select, within}
-use Rattle.base.proofs.Tests.{byBool, or-e}
-use Rattle.base.proofs.ListLaws.{elem-here, elem-there}
+use Rattle.base.specs.Lists.{elem, within}
+use Rattle.base.proofs.Tests.{or-e}
+use Rattle.base.proofs.ListLaws.{elem-here, elem-there, select-count}
 use Rattle.base.proofs.Rising.{rises, select-rises}
 use Rattle.dates.specs.Months.{monthCount}
 use Rattle.calendar.specs.Live.{liveMonths, tierOf}
@@ -28,11 +28,6 @@ use Rattle.layout.specs.Bytes.{mostRows}
 pub prices-rise : (m : Plan) → rises 0 (pricesIn m) ≡ true
 unfolding pricesIn
 prices-rise m = select-rises (within (m .span .low) (m .span .high)) 0 (gridOf (m .tier)) (grid-rises (m .tier))
-
-select-count : (f : ℕ → Bool) (xs : List ℕ) → length (select f xs) ≤ length xs
-unfolding select
-select-count f [] = omega arith
-select-count f (x ∷ xs) = let h = select-count f xs in byBool (f x) (λ e. rw e (omega arith)) (λ e. rw e (omega arith))
 
 total-le : (G H : ℕ → List ℕ) (L : List ℕ) → ((m : ℕ) → length (G m) ≤ length (H m)) → total G L ≤ total H L
 unfolding total

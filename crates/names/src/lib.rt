@@ -72,7 +72,7 @@ pub fn write(name: &mut [u8], month: u32, kind: u32, price: u32) -> u16
 }
 
 // The prefix, a letter from A to X, six digits.
-fn can_stand(place: u16, byte: u8) -> bool
+pub fn can_stand(place: u16, byte: u8) -> bool
     ensures { λ r. ⌜ r ≡ canStand place byte ⌝ }
 {
     if place < 4 {
@@ -108,7 +108,7 @@ fn pair(tens: u8, ones: u8) -> u16
 }
 
 // The series of which a name's bytes tell, where each can stand.
-fn told(name: &[u8]) -> Series
+pub fn told(name: &[u8]) -> Series
     requires { ⌜ (length (now name) ≡ nameLength) × (nameLength ≤ firstIn (misplaced (now name)) 0 nameLength) ⌝ }
     ensures { λ r. ⌜ r ≡ record { number = 0; month = monthRead (now (name .entry)); kind = kindRead (now (name .entry)); price = priceRead (now (name .entry)) } ⌝ }
 {

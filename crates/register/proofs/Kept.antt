@@ -3,11 +3,11 @@
 use mathlib.Core.Path.{_≡_, refl, sym, ap, _∙_, subst}
 use mathlib.Core.Bool.{true, false, false≢true}
 use mathlib.Core.List.{List, [], _∷_, _++_, append-assoc}
-use Prim.Native.Nat.{ℕ, zero, suc, _+_, _-_, _*_, _/_, _%_, _≤_, _<_}
+use Prim.Native.Nat.{ℕ, zero, suc, _+_, _-_, _*_, _≤_, _<_}
 use native.Mathlib.Nat.{add-zero}
 use native.Mathlib.Omega.{arith}
 use lib.ListN.{length, getD, take, drop, replicate, length-append, length-take, length-drop, length-replicate, take-append-drop}
-use lib.Seq.{take-all, take-at, drop-at, drop-drop, drop-cons, getD-drop}
+use lib.Seq.{take-at, drop-at, drop-drop, getD-drop}
 use Rattle.layout.specs.Rows.{Row}
 use Rattle.layout.specs.Register.{Body}
 use Rattle.base.specs.Words.{two, at16}
@@ -15,14 +15,10 @@ use Rattle.layout.specs.Bytes.{placesBytes, rowsBytes, padded, bodyBytes, readR
 use Rattle.register.specs.Check.{Tells, Keeps}
 use Rattle.layout.specs.Spans.{placesAt}
 use Rattle.layout.proofs.ByteLaws.{places-length, rows-length, padded-length, zeros-zero, places-none, places-some, places-count, rows-count, zeros-are}
-use Rattle.base.proofs.WordLaws.{at16-drop, two-append}
+use Rattle.base.proofs.WordLaws.{at16-drop, two-append, one-at, two-at}
 
 pub tells-not : {P : Type 0} → (P → ⊥) → Tells false P
 tells-not never = record { if-true = λ e. absurd (false≢true e); if-holds = λ p. absurd (never p) }
-
--- all bytes from one on
-pub rest-all : (bs : List ℕ) (at : ℕ) → take (length bs - at) (drop at bs) ≡ drop at bs
-rest-all bs at = take-all (length bs - at) (drop at bs) (omega (arith, length-drop at bs))
 
 -- the last byte of each of n rows is zero
 abbrev pub EndsZero : ℕ → List ℕ → Type 0
@@ -31,16 +27,6 @@ EndsZero (suc n) xs = (getD xs 7 0 ≡ 0) × EndsZero n (drop 8 xs)
 
 -- ---- from the scan to the layout: what is read, written before the bytes behind it, is the bytes that it was read of
 module _ (bs : List ℕ) (bytes : (i : ℕ) → getD bs i 0 < 256) where
-  one-at : (at next v : ℕ) → next ≡ suc at → at < length bs → getD bs at 0 ≡ v → v ∷ drop next bs ≡ drop at bs
-  one-at at next v e h g = rw (e, ← g) (sym (drop-cons bs at 0 h))
-
-  two-at : (at next : ℕ) → next ≡ suc (suc at) → next ≤ length bs → two (at16 bs at) (drop next bs) ≡ drop at bs
-  unfolding two at16
-  two-at at next e h =
-      let low : (getD bs at 0 + 256 * getD bs (suc at) 0) % 256 ≡ getD bs at 0 = omega (arith, bytes at) in
-      let high : (getD bs at 0 + 256 * getD bs (suc at) 0) / 256 ≡ getD bs (suc at) 0 = omega (arith, bytes at) in
-      rw (low, high, e, drop-cons bs at 0 (omega arith), drop-cons bs (suc at) 0 (omega arith))
-
   places-from : (w at : ℕ) → at + 4 * w ≤ length bs → placesBytes (placesAt bs at w) ++ drop (at + 4 * w) bs ≡ drop at bs
   unfolding placesBytes
   places-from zero at h = let e : at + 4 * 0 ≡ at = omega arith in rw (e, places-none bs at 0 (omega arith))
@@ -54,9 +40,9 @@ module _ (bs : List ℕ) (bytes : (i : ℕ) → getD bs i 0 < 256) where
         two-append,
         e,
         places-from w (at + 4) (omega arith),
-        two-at (at + 2) (at + 4) (omega arith) (omega arith),
+        two-at bs bytes (at + 2) (at + 4) (omega arith) (omega arith),
       )
-      (two-at at (at + 2) (omega arith) (omega arith))
+      (two-at bs bytes at (at + 2) (omega arith) (omega arith))
 
   rows-from : (n at : ℕ) → at + 8 * n ≤ length bs → EndsZero n (drop at bs) → rowsBytes (readRows n (drop at bs)) ++ drop (at + 8 * n) bs ≡ drop at bs
   unfolding rowsBytes readRows
@@ -78,12 +64,12 @@ module _ (bs : List ℕ) (bytes : (i : ℕ) → getD bs i 0 < 256) where
         two-append,
         e,
         i,
-        one-at (at + 7) (at + 8) 0 (omega arith) (omega arith) end,
-        one-at (at + 6) (at + 7) (getD bs (at + 6) 0) (omega arith) (omega arith) refl,
-        two-at (at + 4) (at + 6) (omega arith) (omega arith),
-        two-at (at + 2) (at + 4) (omega arith) (omega arith),
+        one-at bs (at + 7) (at + 8) 0 (omega arith) (omega arith) end,
+        one-at bs (at + 6) (at + 7) (getD bs (at + 6) 0) (omega arith) (omega arith) refl,
+        two-at bs bytes (at + 4) (at + 6) (omega arith) (omega arith),
+        two-at bs bytes (at + 2) (at + 4) (omega arith) (omega arith),
       )
-      (two-at at (at + 2) (omega arith) (omega arith))
+      (two-at bs bytes at (at + 2) (omega arith) (omega arith))
 
   module _ (l : length bs ≡ registerLength) (k : Keeps bs) (ends : EndsZero (at16 bs 4) (drop rowsFrom bs)) where
     waiting-part : (m : ℕ) → m ≡ placesLength - 4 * getD bs 1 0 → replicate m 0 ++ drop rowsFrom bs ≡ drop (8 + 4 * getD bs 1 0) bs
@@ -117,13 +103,13 @@ module _ (bs : List ℕ) (bytes : (i : ℕ) → getD bs i 0 < 256) where
           append-assoc (placesBytes (placesAt bs 8 w)),
           waiting-part (placesLength - length (placesBytes (placesAt bs 8 w))) (rw p),
           places-from w 8 (omega arith),
-          one-at 7 8 0 (omega arith) (omega arith) (k .seven),
-          one-at 6 7 0 (omega arith) (omega arith) (k .six),
-          two-at 4 6 (omega arith) (omega arith),
-          two-at 2 4 (omega arith) (omega arith),
-          one-at 1 2 w (omega arith) (omega arith) refl,
+          one-at bs 7 8 0 (omega arith) (omega arith) (k .seven),
+          one-at bs 6 7 0 (omega arith) (omega arith) (k .six),
+          two-at bs bytes 4 6 (omega arith) (omega arith),
+          two-at bs bytes 2 4 (omega arith) (omega arith),
+          one-at bs 1 2 w (omega arith) (omega arith) refl,
         )
-        (one-at 0 1 1 (omega arith) (omega arith) (k .status))
+        (one-at bs 0 1 1 (omega arith) (omega arith) (k .status))
 
 -- ---- and from the layout to the scan
 ends-written : (rs : List Row) (rest : List ℕ) → EndsZero (length rs) (rowsBytes rs ++ rest)

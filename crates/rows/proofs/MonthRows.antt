@@ -26,11 +26,10 @@ use Rattle.rules.proofs.RulebookLaws.{live-rises}
 use Rattle.layout.specs.Rows.{Entry, Row, row, ladder, rowsOf}
 use Rattle.layout.specs.Register.{Body, running, spanLow, spanHigh}
 use Rattle.layout.specs.Bytes.{registerLength, rowsBytes, momentOf, bodyOf, allZero, regOf, rowsFrom, rowsLength}
-use Rattle.base.specs.Words.{two}
 use Rattle.calls.specs.RowsCall.{monthRows, earlierRows, rowsCause, rowsNumber, rowsPart, rowsPlace}
 use Rattle.layout.specs.Spans.{spansOf}
 use Rattle.rows.specs.Places.{ladderSize, noRows, monthPlace}
-use Rattle.layout.proofs.ByteLaws.{rows-length}
+use Rattle.layout.proofs.ByteLaws.{rows-length, rows-append}
 use Rattle.layout.proofs.Held.{ladderOf, Held}
 use Rattle.grid.proofs.Runs.{run-is}
 use Rattle.scan.proofs.Found.{SpanHeld, spanned}
@@ -53,11 +52,6 @@ module _ (f m at : ℕ) (ms : List ℕ) (spans : List (List ℕ)) (i : ℕ) (h :
       → monthPlace f m at (drop i ms) (drop i spans) ≡ monthPlace f m (at + sizeAt f ms spans i) (drop (i + 1) ms) (drop (i + 1) spans)
   unfolding monthPlace
   rows-next e = rw (drop-cons ms i 0 h, getD-drop i spans 0 [], add-zero i, ne-eqb m (getD ms i 0) e, drop-drop 1 i spans, add-one i)
-
-bytes-append : (xs ys : List Row) → rowsBytes (xs ++ ys) ≡ rowsBytes xs ++ rowsBytes ys
-unfolding rowsBytes two
-bytes-append [] ys = refl
-bytes-append (x ∷ xs) ys = rw (bytes-append xs ys)
 
 -- a month's rows among ladders are its own ladder, and the rows before them are the ladders of the months before
 month-ladder : (m n : ℕ) (g : ℕ → Entry) (ps : List ℕ) (rest : List Row) → monthRows m (ladder n g ps ++ rest) ≡ cond (eqb n m) (ladder n g ps) [] ++ monthRows m rest
@@ -237,7 +231,7 @@ module _ (cal bs : List ℕ) (m : ℕ) where
       let E : List Row = earlierRows m rs in
       let M : List Row = monthRows m rs in
       let d : drop rowsFrom bs ≡ rowsBytes rs ++ zeros = rows-behind cal bs (k .0) (k .1) in
-      let e : rowsBytes rs ≡ rowsBytes E ++ (rowsBytes M ++ rowsBytes (t .0)) = ap rowsBytes (t .1) ∙ bytes-append E (M ++ t .0) ∙ ap (λ (xs : List ℕ). rowsBytes E ++ xs) (bytes-append M (t .0)) in
+      let e : rowsBytes rs ≡ rowsBytes E ++ (rowsBytes M ++ rowsBytes (t .0)) = ap rowsBytes (t .1) ∙ rows-append E (M ++ t .0) ∙ ap (λ (xs : List ℕ). rowsBytes E ++ xs) (rows-append M (t .0)) in
       record {
         rest = rowsBytes (t .0) ++ zeros;
         bytes-are = sym (drop-drop (8 * length E) rowsFrom bs) ∙ rw (d, e, append-assoc (rowsBytes E), append-assoc (rowsBytes M)) (drop-at (rowsBytes E) _ _ (rows-length E));

@@ -1,4 +1,4 @@
--- How the code goes along a register's bytes: layout, ladders, announcements, the place of a month's rows. Contracts of leaves cite this file.
+-- How the code goes along a register's rows, ladder behind ladder. Contracts of leaves cite this file.
 -- Assumes nothing.
 use mathlib.Core.Bool.{Bool, cond, _&&_}
 use mathlib.Core.List.{List, [], _∷_, _++_}
@@ -13,8 +13,6 @@ use Rattle.grid.specs.Numbers.{stride, bandStep}
 use Rattle.layout.specs.Rows.{Row, row, entryOk}
 use Rattle.base.specs.Words.{at16}
 use Rattle.layout.specs.Spans.{noSpans}
-
--- ---- rows
 
 -- the row at a byte. The byte behind the origin is taken with it: where it is not zero, the origin is not one of the five
 abbrev pub rowAt : List ℕ → ℕ → Row
@@ -51,7 +49,3 @@ ladderSpans day f done (m ∷ ms) rs =
     let n : ℕ = ladderRows day m (tierOf f m) rs in
     cond (eqb n 0) noSpans
     (ladderSpans day f (done ++ ((headPrice rs ∷ headPrice (drop (n - 1) rs) ∷ []) ∷ [])) ms (drop n rs))
-
--- ---- announcements
-
--- ---- the rows of a month

@@ -9,7 +9,8 @@ use borrow.Author.Tests.{not-true, not-false}
 use Rattle.base.proofs.Tests.{clash}
 use Rattle.base.specs.Words.{at16}
 use Rattle.layout.specs.Bytes.{allZero, rowsFrom}
-use Rattle.register.proofs.Kept.{tells-not, rest-all}
+use Rattle.register.proofs.Kept.{tells-not}
+use Rattle.base.proofs.Parts.{whole-part}
 use Rattle.register.proofs.keeps_layout.Statement.{statement}
 use Rattle.register.proofs.keeps_layout.Tie as tie
 
@@ -95,7 +96,7 @@ returns-7 : tie.Need-returns-7
 returns-7 c =
     let n = c .before .before .before .before .before .before .word .ensures in
     let bs = c .before .before .before .before .before .before .before .before .before .before .before .before .before .before .before .before .args .register .now in
-    let z : c .is-zero2 .result ≡ allZero (drop (rowsFrom + 8 * at16 bs 4) bs) = c .is-zero2 .ensures ∙ rw (rest-all, n) in
+    let z : c .is-zero2 .result ≡ allZero (drop (rowsFrom + 8 * at16 bs 4) bs) = c .is-zero2 .ensures ∙ rw (whole-part, n) in
     record {
       if-true = λ e. record {
         status = c .before .before .before .before .before .before .before .before .before .before .before .before .before .if1 .left;
