@@ -2,9 +2,11 @@
 use base::causes;
 use calls::Told;
 use layout::DAY;
+use layout::MONTH;
 use layout::MOST_WAITING;
 use layout::PLACE_LENGTH;
 use layout::PLACES;
+use layout::PRICE;
 use layout::WAITING;
 ghost use mathlib.Core.Path.{_≡_};
 ghost use mathlib.Core.Bool.{true};
@@ -27,10 +29,10 @@ fn write_place(part: &mut [u8], month: u16, price: u16)
     requires { ⌜ 4 ≤ length (now part) ⌝ }
     ensures { λ _. ⌜ now (part .exit) ≡ placeBytes month price ++ drop 4 (now (part .entry)) ⌝ }
 {
-    part[0] = (month % 256) as u8;
-    part[1] = (month / 256) as u8;
-    part[2] = (price % 256) as u8;
-    part[3] = (price / 256) as u8;
+    part[MONTH] = (month % 256) as u8;
+    part[MONTH + 1] = (month / 256) as u8;
+    part[PRICE] = (price % 256) as u8;
+    part[PRICE + 1] = (price / 256) as u8;
 }
 
 // Puts an announcement into the next free place. Returns how many wait.

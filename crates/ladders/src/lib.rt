@@ -4,9 +4,11 @@ pub mod spans;
 use base::Tier;
 use grid::Strikes;
 use layout::FIRST_DAY;
+use layout::MONTH;
 use layout::ORIGIN;
 use layout::PRICE;
 use layout::ROW_LENGTH;
+use layout::SPARE;
 ghost use mathlib.Core.Path.{_≡_};
 ghost use mathlib.Core.List.{_++_};
 ghost use Prim.Native.Nat.{_+_, _*_, _≤_, _<_};
@@ -147,14 +149,14 @@ fn write_row(part: &mut [u8], month: u16, price: u16, first: u16, origin: u8)
     requires { ⌜ 8 ≤ length (now part) ⌝ }
     ensures { λ _. ⌜ now (part .exit) ≡ rowBytes month price first origin ++ drop 8 (now (part .entry)) ⌝ }
 {
-    part[0] = (month % 256) as u8;
-    part[1] = (month / 256) as u8;
-    part[2] = (price % 256) as u8;
-    part[3] = (price / 256) as u8;
-    part[4] = (first % 256) as u8;
-    part[5] = (first / 256) as u8;
-    part[6] = origin;
-    part[7] = 0;
+    part[MONTH] = (month % 256) as u8;
+    part[MONTH + 1] = (month / 256) as u8;
+    part[PRICE] = (price % 256) as u8;
+    part[PRICE + 1] = (price / 256) as u8;
+    part[FIRST_DAY] = (first % 256) as u8;
+    part[FIRST_DAY + 1] = (first / 256) as u8;
+    part[ORIGIN] = origin;
+    part[SPARE] = 0;
 }
 
 // Writes a month's ladder at the front of the register's rest. `old` is the old rows that are left; the month's come first.

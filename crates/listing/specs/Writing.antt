@@ -3,7 +3,7 @@
 use mathlib.Core.Path.{_≡_}
 use mathlib.Core.Bool.{true, cond, not}
 use mathlib.Core.List.{List, [], _∷_, _++_}
-use Prim.Native.Nat.{ℕ, suc, _-_, _*_, _≤_}
+use Prim.Native.Nat.{ℕ, suc, _-_, _≤_}
 use lib.Dec.{eqb, ltb}
 use lib.ListN.{length, getD, replicate}
 use Rattle.base.specs.Causes.{cause, firstOf}
@@ -13,8 +13,8 @@ use Rattle.grid.specs.Numbers.{numberOf}
 use Rattle.rules.specs.Rules.{Moment, Rules, lastFirstMonth}
 use Rattle.rules.specs.Rulebook.{moved, firstAt, rules}
 use Rattle.layout.specs.Rows.{Row}
-use Rattle.layout.specs.Register.{mostWaiting, Body, Reg}
-use Rattle.layout.specs.Bytes.{mostRows, rowsBytes, padded, momentOf, bodyOf}
+use Rattle.layout.specs.Register.{Body, Reg}
+use Rattle.layout.specs.Bytes.{placesLength, rowsLength, rowsBytes, padded, momentOf, bodyOf}
 use Rattle.base.specs.Words.{two}
 use Rattle.calls.specs.Listing.{sessionBody}
 use Rattle.calls.specs.Answers.{rowsHeld, added, removed}
@@ -36,11 +36,11 @@ answer R old new = record { number = 0; added = added new; removed = removed R o
 
 -- the head of a register in which nothing waits: status, none waiting, day, row count, two zeros, and no announcement
 unfoldable pub headBytes : ℕ → ℕ → List ℕ
-headBytes day count = 1 ∷ 0 ∷ two day (two count (0 ∷ 0 ∷ replicate (4 * mostWaiting) 0))
+headBytes day count = 1 ∷ 0 ∷ two day (two count (0 ∷ 0 ∷ replicate placesLength 0))
 
 -- and behind it its rows
 abbrev pub quietBytes : ℕ → List Row → List ℕ
-quietBytes day rows = headBytes day (length rows) ++ padded (8 * mostRows) (rowsBytes rows)
+quietBytes day rows = headBytes day (length rows) ++ padded rowsLength (rowsBytes rows)
 
 -- a moment and a close that are taken
 pub record Taken (calendar : List ℕ) (x : Moment) (close : ℕ) : Type 0 where

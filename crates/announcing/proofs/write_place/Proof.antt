@@ -17,6 +17,9 @@ slice-write-part c = search needs
 cast-part-2 : tie.Need-cast-part-2
 cast-part-2 c = search needs
 
+add-part : tie.Need-add-part
+add-part c = search needs
+
 slice-write-part-2 : tie.Need-slice-write-part-2
 slice-write-part-2 c = simp length-set (omega arith)
 
@@ -28,6 +31,9 @@ slice-write-part-3 c = simp length-set (omega arith)
 
 cast-part-4 : tie.Need-cast-part-4
 cast-part-4 c = search needs
+
+add-part-2 : tie.Need-add-part-2
+add-part-2 c = search needs
 
 slice-write-part-4 : tie.Need-slice-write-part-4
 slice-write-part-4 c = search needs
@@ -45,10 +51,12 @@ write-place-spec =
     cast-part
     slice-write-part
     cast-part-2
+    add-part
     slice-write-part-2
     cast-part-3
     slice-write-part-3
     cast-part-4
+    add-part-2
     slice-write-part-4
     same-length
     returns)

@@ -18,6 +18,9 @@ slice-write-part c = search needs
 cast-part-2 : tie.Need-cast-part-2
 cast-part-2 c = search needs
 
+add-part : tie.Need-add-part
+add-part c = search needs
+
 slice-write-part-2 : tie.Need-slice-write-part-2
 slice-write-part-2 c = simp length-set (omega arith)
 
@@ -30,6 +33,9 @@ slice-write-part-3 c = simp length-set (omega arith)
 cast-part-4 : tie.Need-cast-part-4
 cast-part-4 c = search needs
 
+add-part-2 : tie.Need-add-part-2
+add-part-2 c = search needs
+
 slice-write-part-4 : tie.Need-slice-write-part-4
 slice-write-part-4 c = simp length-set (omega arith)
 
@@ -41,6 +47,9 @@ slice-write-part-5 c = simp length-set (omega arith)
 
 cast-part-6 : tie.Need-cast-part-6
 cast-part-6 c = search needs
+
+add-part-3 : tie.Need-add-part-3
+add-part-3 c = search needs
 
 slice-write-part-6 : tie.Need-slice-write-part-6
 slice-write-part-6 c = simp length-set (omega arith)
@@ -67,14 +76,17 @@ write-row-spec =
     cast-part
     slice-write-part
     cast-part-2
+    add-part
     slice-write-part-2
     cast-part-3
     slice-write-part-3
     cast-part-4
+    add-part-2
     slice-write-part-4
     cast-part-5
     slice-write-part-5
     cast-part-6
+    add-part-3
     slice-write-part-6
     slice-write-part-7
     slice-write-part-8
