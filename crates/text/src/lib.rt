@@ -3,7 +3,7 @@
 // What is written goes into a buffer that the caller lends, behind its first `at` bytes; each function answers where the next
 // byte goes. Where the buffer is full the rest is left out, so that the answer is its length.
 mod read;
-mod scan;
+mod search;
 mod write;
 
 pub use read::END_YEAR;
@@ -12,13 +12,13 @@ pub use read::read_close;
 pub use read::read_day;
 pub use read::read_month;
 pub use read::read_number;
-pub use scan::behind_last;
-pub use scan::find;
-pub use scan::line_end;
-pub use scan::part;
-pub use scan::same;
-pub use scan::word_end;
-pub use scan::word_start;
+pub use search::behind_last;
+pub use search::find;
+pub use search::line_end;
+pub use search::part;
+pub use search::same;
+pub use search::word_end;
+pub use search::word_start;
 pub use write::column;
 pub use write::date;
 pub use write::month;

@@ -1,7 +1,7 @@
 // Reading: numbers, and days, months and closes as people write them.
 ghost use Prim.Native.Nat.{_<_};
-use crate::scan::find;
-use crate::scan::part;
+use crate::search::find;
+use crate::search::part;
 use dates::MONTHS;
 
 // The first year that days and months are counted from, and the one after the last.

@@ -1,21 +1,24 @@
--- `text::scan::find` is safe and ends. Assumes nothing.
+-- `text::search::word_end` is safe and ends. Assumes nothing.
 use Prim.Native.Nat.{_≤_, _-_}
 use lib.ListN.{length}
 use borrow.Author.Needs.{needs}
-use Rattle.text.proofs.scan.find.Statement.{statement}
-use Rattle.text.proofs.scan.find.Tie as tie
+use Rattle.text.proofs.search.word_end.Statement.{statement}
+use Rattle.text.proofs.search.word_end.Tie as tie
 
 abbrev Inv-loop : tie.InvT-loop
-Inv-loop text from byte i₀ i = 0 ≤ i
+Inv-loop text from i₀ i = 0 ≤ i
 
 abbrev μ-loop : tie.MeasureT-loop
-μ-loop text from byte i₀ i = length text - i
+μ-loop text from i₀ i = length text - i
 
 loop-holds : tie.Need-loop-holds Inv-loop μ-loop
 loop-holds c = search needs
 
-shared-slice-read-if1 : tie.Need-shared-slice-read-if1 Inv-loop μ-loop
-shared-slice-read-if1 c = search needs
+shared-slice-read-is-blank : tie.Need-shared-slice-read-is-blank Inv-loop μ-loop
+shared-slice-read-is-blank c = search needs
+
+is-blank-requires : tie.Need-is-blank-requires Inv-loop μ-loop
+is-blank-requires c κs = search needs
 
 returns : tie.Need-returns Inv-loop μ-loop
 returns c = search needs
@@ -32,14 +35,15 @@ loop-again c = search needs
 returns-2 : tie.Need-returns-2 Inv-loop μ-loop
 returns-2 c = search needs
 
-pub find-spec : {M : Type 1} → statement M
-find-spec =
+pub word-end-spec : {M : Type 1} → statement M
+word-end-spec =
     tie.close
     (tie.spec
     Inv-loop
     μ-loop
     loop-holds
-    shared-slice-read-if1
+    shared-slice-read-is-blank
+    is-blank-requires
     returns
     add-i
     loop-less

@@ -1,9 +1,9 @@
--- `text::scan::behind_last` is safe and ends. Assumes nothing.
+-- `text::search::behind_last` is safe and ends. Assumes nothing.
 use Prim.Native.Nat.{_≤_, _-_}
 use lib.ListN.{length}
 use borrow.Author.Needs.{needs}
-use Rattle.text.proofs.scan.behind_last.Statement.{statement}
-use Rattle.text.proofs.scan.behind_last.Tie as tie
+use Rattle.text.proofs.search.behind_last.Statement.{statement}
+use Rattle.text.proofs.search.behind_last.Tie as tie
 
 abbrev Inv-loop : tie.InvT-loop
 Inv-loop text byte end₀ i₀ end i = 0 ≤ i

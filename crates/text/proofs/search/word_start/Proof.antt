@@ -1,9 +1,9 @@
--- `text::scan::word_start` is safe and ends. Assumes nothing.
+-- `text::search::word_start` is safe and ends. Assumes nothing.
 use Prim.Native.Nat.{_≤_, _-_}
 use lib.ListN.{length}
 use borrow.Author.Needs.{needs}
-use Rattle.text.proofs.scan.word_start.Statement.{statement}
-use Rattle.text.proofs.scan.word_start.Tie as tie
+use Rattle.text.proofs.search.word_start.Statement.{statement}
+use Rattle.text.proofs.search.word_start.Tie as tie
 
 abbrev Inv-loop : tie.InvT-loop
 Inv-loop text from i₀ i = 0 ≤ i

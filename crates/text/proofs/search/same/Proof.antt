@@ -1,9 +1,9 @@
--- `text::scan::same` is safe and ends. Assumes nothing.
+-- `text::search::same` is safe and ends. Assumes nothing.
 use Prim.Native.Nat.{_≤_, _-_}
 use lib.ListN.{length}
 use borrow.Author.Needs.{needs}
-use Rattle.text.proofs.scan.same.Statement.{statement}
-use Rattle.text.proofs.scan.same.Tie as tie
+use Rattle.text.proofs.search.same.Statement.{statement}
+use Rattle.text.proofs.search.same.Tie as tie
 
 abbrev Inv-loop : tie.InvT-loop
 Inv-loop a b i₀ i = 0 ≤ i

@@ -1,10 +1,10 @@
--- `report::calls::ladders` is safe and ends. Assumes nothing.
+-- `report::outcome::ladders` is safe and ends. Assumes nothing.
 use Prim.Native.Nat.{_-_}
 use lib.ListN.{length}
 use mathlib.Core.Path.{_≡_}
 use borrow.Author.Needs.{needs}
-use Rattle.report.proofs.calls.ladders.Statement.{statement}
-use Rattle.report.proofs.calls.ladders.Tie as tie
+use Rattle.report.proofs.outcome.ladders.Statement.{statement}
+use Rattle.report.proofs.outcome.ladders.Tie as tie
 
 abbrev Inv-loop : tie.InvT-loop
 Inv-loop out₀ at calendar before after started at₀ place₀ out at' place = length out ≡ length out₀
