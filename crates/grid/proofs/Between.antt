@@ -1,7 +1,7 @@
 -- The prices of a span on a grid one after the other: behind the price of a number comes that of the number a stride higher.
 -- Assumes nothing.
-use mathlib.Core.Path.{_≡_, refl, sym, ap, _∙_}
-use mathlib.Core.Bool.{Bool, true, false}
+use mathlib.Core.Path.{_≡_, sym, ap, _∙_}
+use mathlib.Core.Bool.{true, false}
 use mathlib.Core.List.{List, [], _∷_, _++_}
 use Prim.Native.Nat.{ℕ, suc, _+_, _-_, _*_, _/_, _≤_, _<_, zero}
 use native.Mathlib.Nat.{mul-lt-mul-of-pos-left}
@@ -10,18 +10,13 @@ use borrow.Author.Tests.{le-leb, lt-leb}
 use Rattle.base.specs.Lists.{elem, select, within}
 use Rattle.base.specs.declared.Tier.{Tier}
 use Rattle.base.proofs.Tests.{byBool}
-use Rattle.base.proofs.ListLaws.{elem-here, elem-there, within-i, within-l, within-r, select-append, select-none}
+use Rattle.base.proofs.ListLaws.{within-i, within-l, within-r, select-append, select-none, select-same}
 use Rattle.grid.specs.Grid.{gridOf}
 use Rattle.grid.specs.Numbers.{price, numberOf, stride, topNumber, OnGrid}
 use Rattle.grid.proofs.Prices.{price-strict, price-mono, number-is}
 use Rattle.grid.proofs.Grids.{pricesFrom, grid-numbers, stride-pos, prices-split, prices-at, place-of, on-number}
 use Rattle.base.specs.declared.Tier.the-variants.{N}
 use lib.ListN.{length}
-
-select-same : (f g : ℕ → Bool) (xs : List ℕ) → ((p : ℕ) → elem p xs ≡ true → f p ≡ g p) → select f xs ≡ select g xs
-unfolding select
-select-same f g [] h = refl
-select-same f g (x ∷ xs) h = rw (h x (elem-here x xs), select-same f g xs (λ p e. h p (elem-there p x xs e)))
 
 below : (lo hi p : ℕ) → p < lo → within lo hi p ≡ false
 unfolding within

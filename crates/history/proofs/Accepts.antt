@@ -61,7 +61,7 @@ module _ (cal : List ℕ) (passes : Passes cal) (d c : ℕ) (hd : d ≤ 36524) (
       ∙ alone (cause (not (closeTaken c)) 21)
 
   pub start-number : numberAt (rules cal) (start d c) emptyRegister ≡ cause (not (closeTaken c)) 21
-  unfolding numberAt rules Rulebook.begun Rulebook.moved
+  unfolding numberAt rules
   start-number =
       let s = empty-stands cal in
       says-own (rules cal) emptyRegister (number (rules cal) (start d c) (regOf emptyRegister)) passes (s .0) (s .1)
@@ -93,7 +93,7 @@ module _ (cal bs : List ℕ) where
 
   module _ (passes : Passes cal) (run : Runs cal bs) where
     says : (own : ℕ) → opened (rules cal) bs own ≡ own
-    unfolding rules Rulebook.begun Rulebook.moved
+    unfolding rules
     says own = says-own (rules cal) bs own passes (run .0) (run .2)
 
     -- bytes 2–3 hold the day
@@ -135,7 +135,7 @@ module _ (cal bs : List ℕ) where
         )
 
     pub rows-accepted : (m : ℕ) → elem m (liveMonths (firstLive (expiryOf cal) (at16 bs 2))) ≡ true → rowsNumber (rules cal) bs m ≡ 0
-    unfolding rowsNumber rowsCause rules Rulebook.begun Rulebook.moved firstAt expiryAt bodyOf momentOf cause firstOf
+    unfolding rowsNumber rowsCause rules firstAt expiryAt bodyOf momentOf cause firstOf
     rows-accepted m live = says _ ∙ rw (run-read run, live)
 
 -- ---- one call with every number given: a start on day 9816, 16 November 2026, under a calendar in which every day has a session

@@ -15,7 +15,6 @@ use Rattle.base.proofs.ListLaws.{within-i, within-l, within-r, elem-select, lea
 use Rattle.calendar.specs.Live.{firstLive, liveMonths}
 use Rattle.calendar.proofs.LiveLaws.{live-mono, live-between}
 use Rattle.rules.specs.Rules.{Moment, Rules, next}
-use Rattle.rules.specs.Rulebook as Rulebook
 use Rattle.rules.specs.Rulebook.{firstAt, rules, expiryAt}
 use Rattle.calls.specs.Calls.{Call, start, session, announce}
 use Rattle.rules.proofs.Laws.{Laws}
@@ -142,7 +141,7 @@ module _ (cal : List ℕ) where
 
 lasts-on : (cal : List ℕ) (a b c : Body) → ((m p : ℕ) (e : Entry) → find m p (a .rows) ≡ some e → elem m (rules cal .live (a .at)) ≡ true)
     → Lasts (rules cal) a b → Lasts (rules cal) b c → Lasts (rules cal) a c
-unfolding rules Rulebook.begun Rulebook.moved firstAt expiryAt
+unfolding rules firstAt expiryAt
 lasts-on cal a b c lived x y = record {
   day = let u = x .day in let v = y .day in omega arith;
   row = λ m p e l q.
@@ -171,13 +170,13 @@ module _ (cal bs : List ℕ) (run : Runs cal bs) (calls : List Call) (m : ℕ) w
 
   -- a row once listed keeps first day and origin as long as its month is live
   pub row-lasts : LiveIn cal after m → (p : ℕ) (e : Entry) → find m p (bodyOf bs .rows) ≡ some e → find m p (bodyOf after .rows) ≡ some e
-  unfolding rules Rulebook.begun Rulebook.moved firstAt expiryAt bodyOf momentOf
+  unfolding rules firstAt expiryAt bodyOf momentOf
   row-lasts l p e q = lasting cal bs run calls .1 .row m p e l q
 
   -- a span never shrinks: the lowest price of the month's rows does not rise and the highest does not fall, as long as it is live
   pub span-lasts : LiveIn cal bs m → LiveIn cal after m
       → (spanLow (bodyOf after) m ≤ spanLow (bodyOf bs) m) × (spanHigh (bodyOf bs) m ≤ spanHigh (bodyOf after) m)
-  unfolding rules Rulebook.begun Rulebook.moved firstAt expiryAt bodyOf momentOf
+  unfolding rules firstAt expiryAt bodyOf momentOf
   span-lasts k l = wider (rules cal) _ (bodyOf bs) (run-written cal bs run .agree) (bodyOf after) m k (row-lasts l)
 
   -- and the register runs on, well formed

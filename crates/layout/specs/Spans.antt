@@ -1,4 +1,5 @@
--- The six spans of a register as they are taken up, lowest and highest price of each live month. Contracts of leaves cite this file.
+-- The six spans of a register as they are taken up, lowest and highest price of each live month, and announcements from a byte on.
+-- Contracts of leaves cite this file.
 -- Assumes nothing.
 use mathlib.Core.Bool.{Bool, cond, not, _&&_}
 use mathlib.Core.List.{List, [], _∷_}

@@ -29,7 +29,7 @@ ghost use Rattle.calendar.specs.Live.{liveMonths};
 ghost use Rattle.rules.specs.Rules.{next, lastFirstMonth};
 ghost use Rattle.rules.specs.Rulebook.{firstAt, rules};
 ghost use Rattle.layout.specs.Register.{mostWaiting, waitingOf, waitingOk};
-ghost use Rattle.layout.specs.Bytes.{registerLength, momentOf, bodyOf};
+ghost use Rattle.layout.specs.Bytes.{registerLength, placesFrom, momentOf, bodyOf};
 ghost use Rattle.layout.specs.Spans.{spansOf, standingSpans, placesAt, spanIn};
 ghost use Rattle.register.specs.Check.{Tells, Keeps, placeOf, causesAt, openingOf};
 
@@ -152,8 +152,8 @@ pub fn waits(register: &[u8], at: usize, places: usize, month: u32, price: u32) 
 
 // Whether a price waits for a month in a place other than this one.
 fn waits_beside(register: &[u8], places: usize, i: usize, month: u32, price: u32) -> bool
-    requires { ⌜ (i < places) × (8 + 4 * places ≤ length (now register)) ⌝ }
-    ensures { λ r. ⌜ r ≡ elem price (waitingOf month (placesAt (now (register .entry)) 8 i ++ placesAt (now (register .entry)) (8 + 4 * i + 4) (places - i - 1))) ⌝ }
+    requires { ⌜ (i < places) × (placesFrom + 4 * places ≤ length (now register)) ⌝ }
+    ensures { λ r. ⌜ r ≡ elem price (waitingOf month (placesAt (now (register .entry)) placesFrom i ++ placesAt (now (register .entry)) (placesFrom + 4 * i + 4) (places - i - 1))) ⌝ }
 {
     if waits(register, PLACES, i, month, price) {
         return true;

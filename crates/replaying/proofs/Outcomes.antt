@@ -2,20 +2,21 @@
 -- Assumes nothing.
 use mathlib.Core.Path.{_≡_, refl}
 use mathlib.Core.Bool.{true, false}
-use mathlib.Core.List.{List}
+use mathlib.Core.List.{List, [], _∷_}
 use Prim.Native.Nat.{ℕ}
 use native.Mathlib.Omega.{arith}
 use lib.Dec.{eqb}
-use lib.ListN.{length}
-use borrow.Author.Tests.{eqb-true}
-use Rattle.base.proofs.Tests.{and-l, and-r}
+use lib.ListN.{length, length-replicate}
+use borrow.Author.Tests.{eqb-true, eq-eqb}
+use Rattle.base.proofs.Tests.{and-l, and-r, and-i}
 use Rattle.rules.specs.Rulebook.{rules}
 use Rattle.layout.specs.Bytes.{registerLength, allZero}
-use Rattle.layout.proofs.ByteLaws.{zeros-are}
+use Rattle.layout.proofs.ByteLaws.{zeros-are, zeros-zero}
 use Rattle.history.specs.Claim.{emptyRegister, finalAt, numbersAt}
-use Rattle.replaying.specs.Journal.{journal, allCalls, wellKept, isEmpty, outcomeOf, Left}
+use Rattle.replaying.specs.Journal.{journal, allCalls, wellKept, isEmpty, outcomeOf, Left, callThen}
 use Rattle.replaying.specs.declared.Outcome.the-variants.{Done, NotEmpty, Malformed}
 use Rattle.history.proofs.Closing.{closing}
+use Rattle.calls.specs.Calls.{start, session, announce, ofOne, callOf, isCall}
 
 empty-is : (bs : List ℕ) → isEmpty bs ≡ true → bs ≡ emptyRegister
 unfolding isEmpty
@@ -76,3 +77,19 @@ module _ (calendar kinds counts : List ℕ) (pool : List (List ℕ)) (register n
       claim = λ d. rw (a, n, empty-is register e) (closing calendar (journal kinds counts pool));
       refused = λ d. absurd (d refl);
     }
+
+empty-is-empty : isEmpty emptyRegister ≡ true
+unfolding isEmpty
+empty-is-empty =
+    let l : length emptyRegister ≡ registerLength = length-replicate {A = ℕ} registerLength 0 in
+    and-i (eq-eqb (length emptyRegister) registerLength l) (zeros-zero registerLength)
+
+-- journals are run: three calls of one pair each, whatever their numbers, from the empty register
+pub three-run : (d c e f m p x y z : ℕ) →
+    let kinds : List ℕ = 0 ∷ 1 ∷ 2 ∷ [] in
+    let counts : List ℕ = 1 ∷ 1 ∷ 1 ∷ [] in
+    let pool : List (List ℕ) = (d ∷ c ∷ []) ∷ (e ∷ f ∷ []) ∷ (m ∷ p ∷ []) ∷ [] in
+    (outcomeOf kinds counts pool emptyRegister (x ∷ y ∷ z ∷ []) ≡ Done)
+    × (journal kinds counts pool ≡ start d c ∷ session e f ∷ announce m p ∷ [])
+unfolding outcomeOf wellKept allCalls journal callThen callOf ofOne isCall
+three-run d c e f m p x y z = (rw empty-is-empty refl, refl)

@@ -200,7 +200,7 @@ module _ (cal : List ℕ) (day c d : ℕ) (ws : List (ℕ × ℕ)) (bs : List �
 
   rows-after : numberAt (rules cal) moves bs ≡ 0
       → rowsRead (afterAt (rules cal) moves bs) ≡ sessionBody (rules cal) (body cal day c ws) (rules cal .move (rules cal .begin day) (nextSession cal day)) d .rows
-  unfolding accepted rules Rulebook.begun Rulebook.moved
+  unfolding accepted rules
   rows-after n =
       ap (λ (b : Body). b .rows)
       (written-body cal (afterAt (rules cal) moves bs) (sessionBody (rules cal) (body cal day c ws) (rules cal .move (rules cal .begin day) (nextSession cal day)) d)

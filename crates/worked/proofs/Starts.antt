@@ -111,7 +111,7 @@ module _ (cal : List ℕ) (day c : ℕ) where
     bs = afterAt (rules cal) (start day c) emptyRegister
 
     pub start-written : Written cal bs (running (startBody (rules cal) (rules cal .begin day) c))
-    unfolding accepted rules Rulebook.begun Rulebook.moved
+    unfolding accepted rules
     start-written = written-after cal emptyRegister empty (empty-written cal) (start day c) start-taken
 
     pub start-read : rowsRead bs ≡ begun cal day c
@@ -119,7 +119,7 @@ module _ (cal : List ℕ) (day c : ℕ) where
 
     start-answer : listedAt cal (start day c) emptyRegister
         ≡ record { number = 0; added = sizes (startPrices c) six; removed = 0; rows = sizes (startPrices c) six }
-    unfolding listedAt accepted rowsHeld removed count rules Rulebook.begun Rulebook.moved
+    unfolding listedAt accepted rowsHeld removed count rules
     start-answer =
         rw (start-taken, written-read cal emptyRegister empty (empty-written cal))
         (λ i. record { number = 0; added = start-new i; removed = 0; rows = start-size i })
