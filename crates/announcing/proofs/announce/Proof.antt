@@ -45,12 +45,6 @@ runs c =
 none : (c : tie.Else3) → let s = start (c .before .before .before) in number (rules (cal s)) (call s) (running (bodyOf (bs s))) ≡ 0
 none c = sym (c .before .announce-cause .ensures) ∙ c .if3 .left
 
-opening-requires : tie.Need-opening-requires
-opening-requires c κs = search needs
-
-same-length : tie.Need-same-length
-same-length c = search needs
-
 returns : tie.Need-returns
 unfolding number announcedAt
 returns c =
@@ -63,15 +57,6 @@ standing-requires c κs =
     let o = c .before .before .before in
     opening-goes (cal (entry o)) (bs (entry o)) (o .opening .result) (o .opening .ensures) (c .before .if1 .left)
 
-array-copy-out-span : tie.Need-array-copy-out-span
-array-copy-out-span c = search needs
-
-array-read-if2 : tie.Need-array-read-if2
-array-read-if2 c = search needs
-
-same-length-2 : tie.Need-same-length-2
-same-length-2 c = search needs
-
 returns-2 : tie.Need-returns-2
 unfolding announcedAt
 returns-2 c =
@@ -83,9 +68,6 @@ returns-2 c =
 
 announce-cause-requires : tie.Need-announce-cause-requires
 announce-cause-requires c κs = let r = runs (c .before) in ((r .reads .passes, r .reads .size), (r .well, r .spans-are))
-
-same-length-3 : tie.Need-same-length-3
-same-length-3 c = search needs
 
 returns-3 : tie.Need-returns-3
 unfolding announcedAt
@@ -118,9 +100,6 @@ put-announcement-requires c κs =
     let s = start w in
     room (cal s) (bs s) (s .args .month) (s .args .price) (runs w .reads .size) (runs w .run) (none e)
 
-same-length-4 : tie.Need-same-length-4
-same-length-4 c = search needs
-
 returns-4 : tie.Need-returns-4
 unfolding announcedAt accepted waitingIn
 returns-4 c =
@@ -134,19 +113,19 @@ pub announce-spec : {M : Type 1} → statement M
 announce-spec =
     tie.close
     (tie.spec
-    opening-requires
-    same-length
+    (λ c κs. search needs)
+    (λ c. search needs)
     returns
     standing-requires
-    array-copy-out-span
-    array-read-if2
-    same-length-2
+    (λ c. search needs)
+    (λ c. search needs)
+    (λ c. search needs)
     returns-2
     announce-cause-requires
-    same-length-3
+    (λ c. search needs)
     returns-3
     cast-put-announcement
     cast-put-announcement-2
     put-announcement-requires
-    same-length-4
+    (λ c. search needs)
     returns-4)

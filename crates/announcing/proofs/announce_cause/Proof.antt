@@ -41,9 +41,6 @@ found c =
     gathered (cal s) (bs s) (s .args .month) (s .args .price) (s .pre .0 .0) (live s) _ _ _ _ _ (first-is f) (c .before .before .before .next-first .ensures) (c .before .waits .ensures)
     (s .pre .1 .1) (c .refusal .ensures)
 
-word-requires : tie.Need-word-requires
-word-requires c κs = search needs
-
 first-live-requires : tie.Need-first-live-requires
 unfolding momentOf
 first-live-requires c κs =
@@ -54,9 +51,6 @@ next-first-requires : tie.Need-next-first-requires
 next-first-requires c κs =
     let s = c .before .before .before .before in
     (s .pre .0 .0, s .pre .0 .1, run-day (cal s) (bs s) (s .pre .0 .1) (run s))
-
-shared-slice-read-places : tie.Need-shared-slice-read-places
-shared-slice-read-places c = search needs
 
 cast-places : tie.Need-cast-places
 cast-places c = omega (arith, c .shared-slice-known3 .given 1)
@@ -85,10 +79,10 @@ pub announce-cause-spec : {M : Type 1} → statement M
 announce-cause-spec =
     tie.close
     (tie.spec
-    word-requires
+    (λ c κs. search needs)
     first-live-requires
     next-first-requires
-    shared-slice-read-places
+    (λ c. search needs)
     cast-places
     waits-requires
     refusal-requires

@@ -15,18 +15,12 @@ returns : tie.Need-returns
 unfolding checkOf calendarCause calendarCauses cause firstOf
 returns c = rw (ne-eqb _ _ (c .if1 .taken))
 
-shared-slice-read-if2 : tie.Need-shared-slice-read-if2
-shared-slice-read-if2 c = search needs
-
 returns-2 : tie.Need-returns-2
 unfolding checkOf calendarCause calendarCauses cause firstOf
 returns-2 c =
     let cal = c .before .before .before .before .args .calendar .now in
     let tail = tail-set cal (c .before .shared-slice-known2 .given 4565 .fits) (omega arith) in
     rw (eq-eqb (length cal) calendarLength (omega arith), tail)
-
-first-lacking-requires : tie.Need-first-lacking-requires
-first-lacking-requires c κs = search needs
 
 returns-3 : tie.Need-returns-3
 unfolding checkOf cause firstOf
@@ -45,4 +39,4 @@ returns-4 c =
 pub check-spec : {M : Type 1} → statement M
 check-spec =
     tie.close
-    (tie.spec returns shared-slice-read-if2 returns-2 first-lacking-requires returns-3 returns-4)
+    (tie.spec returns (λ c. search needs) returns-2 (λ c κs. search needs) returns-3 returns-4)

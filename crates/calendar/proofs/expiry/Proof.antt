@@ -15,26 +15,14 @@ Inv-loop cal month day₀ day = expiryOf cal month ≡ lastUpTo (session cal) da
 abbrev μ-loop : tie.MeasureT-loop
 μ-loop cal month day₀ day = day
 
-third-friday-requires : tie.Need-third-friday-requires Inv-loop μ-loop
-third-friday-requires c κs = search needs
-
 loop-holds : tie.Need-loop-holds Inv-loop μ-loop
 unfolding expiryOf
 loop-holds c = ap (lastUpTo (session _)) (sym (c .third-friday .ensures))
-
-has-session-requires : tie.Need-has-session-requires Inv-loop μ-loop
-has-session-requires c κs = search needs
 
 returns : tie.Need-returns Inv-loop μ-loop
 returns c =
     let l = c .before .before .before .loop in
     sym (l .inv ∙ last-hit _ _ (sym (c .before .has-session .ensures) ∙ c .if1 .taken))
-
-sub-day : tie.Need-sub-day Inv-loop μ-loop
-sub-day c = omega arith
-
-loop-less : tie.Need-loop-less Inv-loop μ-loop
-loop-less c = omega arith
 
 loop-again : tie.Need-loop-again Inv-loop μ-loop
 loop-again c =
@@ -50,11 +38,11 @@ expiry-spec =
     (tie.spec
     Inv-loop
     μ-loop
-    third-friday-requires
+    (λ c κs. search needs)
     loop-holds
-    has-session-requires
+    (λ c κs. search needs)
     returns
-    sub-day
-    loop-less
+    (λ c. omega arith)
+    (λ c. omega arith)
     loop-again
     returns-2)

@@ -7,24 +7,12 @@ use Rattle.calendar.proofs.CalendarLaws.{no-zero-byte}
 use Rattle.calendar.proofs.first_lacking.Statement.{statement}
 use Rattle.calendar.proofs.first_lacking.Tie as tie
 
-least-byte-requires : tie.Need-least-byte-requires
-least-byte-requires c κs = search needs
-
 returns : tie.Need-returns
 returns c =
     let known = c .before .before in
     sym (no-zero-byte _ (λ i. known .shared-slice-known .given i .fits) (known .before .pre) (omega (arith, c .before .least-byte .ensures)))
 
-third-fridays-requires : tie.Need-third-fridays-requires
-third-fridays-requires c κs = search needs
-
-scan-months-requires : tie.Need-scan-months-requires
-scan-months-requires c κs = search needs
-
-returns-2 : tie.Need-returns-2
-returns-2 c = search needs
-
 pub first-lacking-spec : {M : Type 1} → statement M
 first-lacking-spec =
     tie.close
-    (tie.spec least-byte-requires returns third-fridays-requires scan-months-requires returns-2)
+    (tie.spec (λ c κs. search needs) returns (λ c κs. search needs) (λ c κs. search needs) (λ c. search needs))

@@ -9,9 +9,6 @@ use Rattle.calendar.proofs.LiveLaws.{calendar-dated, live-now, live-nex
 use Rattle.calendar.proofs.first_live.Statement.{statement}
 use Rattle.calendar.proofs.first_live.Tie as tie
 
-month-of-requires : tie.Need-month-of-requires
-month-of-requires c κs = search needs
-
 expiry-requires : tie.Need-expiry-requires
 expiry-requires c κs = omega (arith, c .month-of .ensures, month-of-below _ (c .before .before .pre .0))
 
@@ -33,4 +30,4 @@ returns-2 c =
 
 pub first-live-spec : {M : Type 1} → statement M
 first-live-spec =
-    tie.close (tie.spec month-of-requires expiry-requires add-result returns returns-2)
+    tie.close (tie.spec (λ c κs. search needs) expiry-requires add-result returns returns-2)

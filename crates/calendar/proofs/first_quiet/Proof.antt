@@ -24,29 +24,11 @@ loop-holds : tie.Need-loop-holds Inv-loop μ-loop
 unfolding firstLacking
 loop-holds c = (omega arith, refl)
 
-cast-recent-session : tie.Need-cast-recent-session Inv-loop μ-loop
-cast-recent-session c = omega arith
-
-mul-recent-session : tie.Need-mul-recent-session Inv-loop μ-loop
-mul-recent-session c = omega arith
-
-element-copy-out-recent-session : tie.Need-element-copy-out-recent-session Inv-loop μ-loop
-element-copy-out-recent-session c = omega arith
-
 recent-session-requires : tie.Need-recent-session-requires Inv-loop μ-loop
 recent-session-requires c κs =
     let m = c .before .before .loop .month in
     let e = c .before .before .before .before .pre .1 .each m (c .before .loop-test .taken) in
     omega (arith, e, third-friday-is m, third-friday-below m (c .before .loop-test .taken))
-
-returns : tie.Need-returns Inv-loop μ-loop
-returns c = search needs
-
-add-month : tie.Need-add-month Inv-loop μ-loop
-add-month c = omega arith
-
-loop-less : tie.Need-loop-less Inv-loop μ-loop
-loop-less c = omega arith
 
 loop-again : tie.Need-loop-again Inv-loop μ-loop
 loop-again c =
@@ -57,9 +39,6 @@ loop-again c =
     let has = lacks-not _ m _ _ (omega (arith, last, third-friday-rule m .from)) (omega (arith, last)) recent in
     (omega arith, turn .before .loop .inv .1 ∙ first-miss _ _ _ (turn .loop-test .taken) has)
 
-returns-2 : tie.Need-returns-2 Inv-loop μ-loop
-returns-2 c = search needs
-
 pub first-quiet-spec : {M : Type 1} → statement M
 first-quiet-spec =
     tie.close
@@ -67,12 +46,12 @@ first-quiet-spec =
     Inv-loop
     μ-loop
     loop-holds
-    cast-recent-session
-    mul-recent-session
-    element-copy-out-recent-session
+    (λ c. omega arith)
+    (λ c. omega arith)
+    (λ c. omega arith)
     recent-session-requires
-    returns
-    add-month
-    loop-less
+    (λ c. search needs)
+    (λ c. omega arith)
+    (λ c. omega arith)
     loop-again
-    returns-2)
+    (λ c. search needs))

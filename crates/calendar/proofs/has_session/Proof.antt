@@ -7,18 +7,6 @@ use Rattle.calendar.proofs.CalendarLaws.{no-session}
 use Rattle.calendar.proofs.has_session.Statement.{statement}
 use Rattle.calendar.proofs.has_session.Tie as tie
 
-cast-at : tie.Need-cast-at
-cast-at c = search needs
-
-shared-slice-read-result : tie.Need-shared-slice-read-result
-shared-slice-read-result c = search needs
-
-cast-result : tie.Need-cast-result
-cast-result c = search needs
-
-shr-result : tie.Need-shr-result
-shr-result c = search needs
-
 returns : tie.Need-returns
 unfolding session
 returns c = search needs
@@ -28,4 +16,4 @@ returns-2 c = sym (no-session _ _ (c .if1 .left))
 
 pub has-session-spec : {M : Type 1} → statement M
 has-session-spec =
-    tie.close (tie.spec cast-at shared-slice-read-result cast-result shr-result returns returns-2)
+    tie.close (tie.spec (λ c. search needs) (λ c. search needs) (λ c. search needs) (λ c. search needs) returns returns-2)

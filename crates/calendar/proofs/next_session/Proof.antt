@@ -17,26 +17,14 @@ Inv-loop cal day next₀ next = (next ≤ dayCount) × (nextSession cal day ≡ 
 abbrev μ-loop : tie.MeasureT-loop
 μ-loop cal day next₀ next = dayCount - next
 
-add-next : tie.Need-add-next Inv-loop μ-loop
-add-next c = omega arith
-
 loop-holds : tie.Need-loop-holds Inv-loop μ-loop
 unfolding nextSession
 loop-holds c = (omega arith, refl)
-
-has-session-requires : tie.Need-has-session-requires Inv-loop μ-loop
-has-session-requires c κs = search needs
 
 returns : tie.Need-returns Inv-loop μ-loop
 returns c =
     let l = c .before .before .before .loop in
     sym (l .inv .1 ∙ first-hit _ _ _ (omega arith) (sym (c .before .has-session .ensures) ∙ c .if1 .taken))
-
-add-next-2 : tie.Need-add-next-2 Inv-loop μ-loop
-add-next-2 c = omega arith
-
-loop-less : tie.Need-loop-less Inv-loop μ-loop
-loop-less c = omega arith
 
 loop-again : tie.Need-loop-again Inv-loop μ-loop
 loop-again c =
@@ -52,11 +40,11 @@ next-session-spec =
     (tie.spec
     Inv-loop
     μ-loop
-    add-next
+    (λ c. omega arith)
     loop-holds
-    has-session-requires
+    (λ c κs. search needs)
     returns
-    add-next-2
-    loop-less
+    (λ c. omega arith)
+    (λ c. omega arith)
     loop-again
     returns-2)

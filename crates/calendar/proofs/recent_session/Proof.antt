@@ -7,29 +7,8 @@ use Rattle.calendar.proofs.CalendarLaws.{four-bytes}
 use Rattle.calendar.proofs.recent_session.Statement.{statement}
 use Rattle.calendar.proofs.recent_session.Tie as tie
 
-mul-at : tie.Need-mul-at
-mul-at c = search needs
-
-cast-at : tie.Need-cast-at
-cast-at c = search needs
-
-sub-at : tie.Need-sub-at
-sub-at c = search needs
-
-add-high : tie.Need-add-high
-add-high c = search needs
-
-shared-slice-read-high : tie.Need-shared-slice-read-high
-shared-slice-read-high c = search needs
-
 cast-high : tie.Need-cast-high
 cast-high c = omega (arith, c .shared-slice-known .given (c .before .args .last / 16 * 2 - 2 + 2))
-
-add-high-2 : tie.Need-add-high-2
-add-high-2 c = search needs
-
-shared-slice-read-high-2 : tie.Need-shared-slice-read-high-2
-shared-slice-read-high-2 c = search needs
 
 cast-high-2 : tie.Need-cast-high-2
 cast-high-2 c = omega (arith, c .shared-slice-known2 .given (c .before .before .args .last / 16 * 2 - 2 + 3))
@@ -42,17 +21,8 @@ add-high-3 c =
     let at : ℕ = c .before .before .args .last / 16 * 2 - 2 in
     omega (arith, c .shared-slice-known2 .given (at + 2), c .shared-slice-known2 .given (at + 3))
 
-shared-slice-read-low : tie.Need-shared-slice-read-low
-shared-slice-read-low c = search needs
-
 cast-low : tie.Need-cast-low
 cast-low c = omega (arith, c .shared-slice-known3 .given (c .before .before .before .args .last / 16 * 2 - 2))
-
-add-low : tie.Need-add-low
-add-low c = search needs
-
-shared-slice-read-low-2 : tie.Need-shared-slice-read-low-2
-shared-slice-read-low-2 c = search needs
 
 cast-low-2 : tie.Need-cast-low-2
 cast-low-2 c = omega (arith, c .shared-slice-known4 .given (c .before .before .before .before .args .last / 16 * 2 - 2 + 1))
@@ -75,12 +45,6 @@ add-days c =
     let at : ℕ = c .before .before .before .before .args .last / 16 * 2 - 2 in
     omega (arith, c .shared-slice-known4 .given at, c .shared-slice-known4 .given (at + 1), c .shared-slice-known4 .given (at + 2), c .shared-slice-known4 .given (at + 3))
 
-cast-result : tie.Need-cast-result
-cast-result c = search needs
-
-shr-result : tie.Need-shr-result
-shr-result c = search needs
-
 returns : tie.Need-returns
 returns c = four-bytes _ (λ i. c .shared-slice-known4 .given i .fits) (c .before .before .before .before .args .last) (omega arith)
 
@@ -88,26 +52,26 @@ pub recent-session-spec : {M : Type 1} → statement M
 recent-session-spec =
     tie.close
     (tie.spec
-    mul-at
-    cast-at
-    sub-at
-    add-high
-    shared-slice-read-high
+    (λ c. search needs)
+    (λ c. search needs)
+    (λ c. search needs)
+    (λ c. search needs)
+    (λ c. search needs)
     cast-high
-    add-high-2
-    shared-slice-read-high-2
+    (λ c. search needs)
+    (λ c. search needs)
     cast-high-2
     mul-high
     add-high-3
-    shared-slice-read-low
+    (λ c. search needs)
     cast-low
-    add-low
-    shared-slice-read-low-2
+    (λ c. search needs)
+    (λ c. search needs)
     cast-low-2
     mul-low
     add-low-2
     mul-days
     add-days
-    cast-result
-    shr-result
+    (λ c. search needs)
+    (λ c. search needs)
     returns)

@@ -29,23 +29,8 @@ Inv-months cal fridays month₀ month = (month ≤ monthCount) × (firstLacking 
 abbrev μ-months : tie.MeasureT-months
 μ-months cal fridays month₀ month = monthCount - month
 
-first-quiet-requires : tie.Need-first-quiet-requires Inv-loop μ-loop Inv-months μ-months
-first-quiet-requires c κs = search needs
-
 months-holds : tie.Need-months-holds Inv-loop μ-loop Inv-months μ-months
 months-holds c = c .first-quiet .ensures
-
-cast-last : tie.Need-cast-last Inv-loop μ-loop Inv-months μ-months
-cast-last c = omega arith
-
-mul-last : tie.Need-mul-last Inv-loop μ-loop Inv-months μ-months
-mul-last c = omega arith
-
-element-copy-out-last : tie.Need-element-copy-out-last Inv-loop μ-loop Inv-months μ-months
-element-copy-out-last c = omega arith
-
-first-day-requires : tie.Need-first-day-requires Inv-loop μ-loop Inv-months μ-months
-first-day-requires c κs = search needs
 
 recent-session-requires : tie.Need-recent-session-requires Inv-loop μ-loop Inv-months μ-months
 recent-session-requires c κs =
@@ -65,14 +50,8 @@ loop-holds c =
 add-if1 : tie.Need-add-if1 Inv-loop μ-loop Inv-months μ-months
 add-if1 c = omega (arith, third-friday-below _ (c .before .before .before .before .before .months-test .taken))
 
-has-session-requires : tie.Need-has-session-requires Inv-loop μ-loop Inv-months μ-months
-has-session-requires c κs = search needs
-
 add-day : tie.Need-add-day Inv-loop μ-loop Inv-months μ-months
 add-day c = omega (arith, third-friday-below _ (c .before .before .before .before .before .before .before .months-test .taken))
-
-loop-less : tie.Need-loop-less Inv-loop μ-loop Inv-months μ-months
-loop-less c = omega arith
 
 loop-again : tie.Need-loop-again Inv-loop μ-loop Inv-months μ-months
 loop-again c =
@@ -81,12 +60,6 @@ loop-again c =
     let none = not-true (l .found) (c .before .before .loop-test .taken) in
     let later = rw (none, some-first (session _) (l .day) (thirdFriday m - 14) (omega arith)) at (l .inv .2) in
     (l .inv .0, omega arith, rw (c .has-session .ensures) later)
-
-add-month : tie.Need-add-month Inv-loop μ-loop Inv-months μ-months
-add-month c = omega arith
-
-months-less : tie.Need-months-less Inv-loop μ-loop Inv-months μ-months
-months-less c = omega arith
 
 months-again : tie.Need-months-again Inv-loop μ-loop Inv-months μ-months
 months-again c =
@@ -115,21 +88,21 @@ scan-months-spec =
     μ-loop
     Inv-months
     μ-months
-    first-quiet-requires
+    (λ c κs. search needs)
     months-holds
-    cast-last
-    mul-last
-    element-copy-out-last
-    first-day-requires
+    (λ c. omega arith)
+    (λ c. omega arith)
+    (λ c. omega arith)
+    (λ c κs. search needs)
     recent-session-requires
     loop-holds
     add-if1
-    has-session-requires
+    (λ c κs. search needs)
     add-day
-    loop-less
+    (λ c. omega arith)
     loop-again
-    add-month
-    months-less
+    (λ c. omega arith)
+    (λ c. omega arith)
     months-again
     returns
     returns-2)

@@ -7,9 +7,6 @@ use Rattle.calendar.proofs.LiveLaws.{tier-n, tier-m, tier-f}
 use Rattle.calendar.proofs.tier_of.Statement.{statement}
 use Rattle.calendar.proofs.tier_of.Tie as tie
 
-add-if2 : tie.Need-add-if2
-add-if2 c = search needs
-
 returns : tie.Need-returns
 returns c = sym (tier-n _ _ (omega arith))
 
@@ -20,4 +17,4 @@ returns-3 : tie.Need-returns-3
 returns-3 c = sym (tier-f _ _ (omega arith))
 
 pub tier-of-spec : {M : Type 1} → statement M
-tier-of-spec = tie.close (tie.spec add-if2 returns returns-2 returns-3)
+tier-of-spec = tie.close (tie.spec (λ c. search needs) returns returns-2 returns-3)

@@ -8,32 +8,14 @@ use Rattle.calling.proofs.Answers.{as-none, as-start, as-session, as-an
 use Rattle.calling.proofs.call_by_kind.Statement.{statement}
 use Rattle.calling.proofs.call_by_kind.Tie as tie
 
-is-call-requires : tie.Need-is-call-requires
-is-call-requires c κs = search needs
-
 returns : tie.Need-returns
 returns c = as-none _ _ _ (sym (c .before .is-call .ensures) ∙ not-true _ (c .if1 .taken))
 
 index-1-x : tie.Need-index-1-x
 index-1-x c = let one = fits-one _ _ (sym (c .before .is-call .ensures) ∙ not-false _ (c .if1 .left)) in search needs
 
-index-2-x : tie.Need-index-2-x
-index-2-x c = search needs
-
 index-1-y : tie.Need-index-1-y
 index-1-y c = let one = fits-one _ _ (sym (c .before .before .is-call .ensures) ∙ not-false _ (c .before .if1 .left)) in search needs
-
-index-2-y : tie.Need-index-2-y
-index-2-y c = search needs
-
-start-requires : tie.Need-start-requires
-start-requires c κs = search needs
-
-of-listed-requires : tie.Need-of-listed-requires
-of-listed-requires c κs = search needs
-
-same-length : tie.Need-same-length
-same-length c = search needs
 
 returns-2 : tie.Need-returns-2
 returns-2 c =
@@ -42,27 +24,12 @@ returns-2 c =
     let f = t .before .before .before in
     as-start _ _ _ _ _ _ _ _ (is-start _ _ (fits-one _ _ (sym (f .before .is-call .ensures) ∙ not-false _ (f .if1 .left))) (t .if2 .taken)) (s .start .ensures .0) (s .start .ensures .1) (c .of-listed .ensures)
 
-session-requires : tie.Need-session-requires
-session-requires c κs = search needs
-
-of-listed-requires-2 : tie.Need-of-listed-requires-2
-of-listed-requires-2 c κs = search needs
-
-same-length-2 : tie.Need-same-length-2
-same-length-2 c = search needs
-
 returns-3 : tie.Need-returns-3
 returns-3 c =
     let s = c .before .before .before in
     let t = s .before .before in
     let f = t .before .before .before .before in
     as-session _ _ _ _ _ _ _ _ (is-session _ _ (fits-one _ _ (sym (f .before .is-call .ensures) ∙ not-false _ (f .if1 .left))) (t .before .if2 .left) (t .if3 .taken)) (s .session .ensures .0) (s .session .ensures .1) (c .of-listed2 .ensures)
-
-announce-requires : tie.Need-announce-requires
-announce-requires c κs = search needs
-
-same-length-3 : tie.Need-same-length-3
-same-length-3 c = search needs
 
 returns-4 : tie.Need-returns-4
 returns-4 c =
@@ -76,20 +43,20 @@ pub call-by-kind-spec : {M : Type 1} → statement M
 call-by-kind-spec =
     tie.close
     (tie.spec
-    is-call-requires
+    (λ c κs. search needs)
     returns
     index-1-x
-    index-2-x
+    (λ c. search needs)
     index-1-y
-    index-2-y
-    start-requires
-    of-listed-requires
-    same-length
+    (λ c. search needs)
+    (λ c κs. search needs)
+    (λ c κs. search needs)
+    (λ c. search needs)
     returns-2
-    session-requires
-    of-listed-requires-2
-    same-length-2
+    (λ c κs. search needs)
+    (λ c κs. search needs)
+    (λ c. search needs)
     returns-3
-    announce-requires
-    same-length-3
+    (λ c κs. search needs)
+    (λ c. search needs)
     returns-4)

@@ -14,26 +14,8 @@ Inv-loop day guess month₀ month = (month < monthCount) × (firstDay month ≤ 
 abbrev μ-loop : tie.MeasureT-loop
 μ-loop day guess month₀ month = monthCount - month
 
-mul-guess : tie.Need-mul-guess Inv-loop μ-loop
-mul-guess c = omega arith
-
-cast-month : tie.Need-cast-month Inv-loop μ-loop
-cast-month c = omega arith
-
 loop-holds : tie.Need-loop-holds Inv-loop μ-loop
 loop-holds c = omega (arith, guessed (c .args .day * 2 / 61) (omega arith))
-
-add-first-day : tie.Need-add-first-day Inv-loop μ-loop
-add-first-day c = omega arith
-
-first-day-requires : tie.Need-first-day-requires Inv-loop μ-loop
-first-day-requires c κs = omega arith
-
-add-month : tie.Need-add-month Inv-loop μ-loop
-add-month c = omega arith
-
-loop-less : tie.Need-loop-less Inv-loop μ-loop
-loop-less c = omega arith
 
 loop-again : tie.Need-loop-again Inv-loop μ-loop
 loop-again c =
@@ -52,12 +34,12 @@ month-of-spec =
     (tie.spec
     Inv-loop
     μ-loop
-    mul-guess
-    cast-month
+    (λ c. omega arith)
+    (λ c. omega arith)
     loop-holds
-    add-first-day
-    first-day-requires
-    add-month
-    loop-less
+    (λ c. omega arith)
+    (λ c κs. omega arith)
+    (λ c. omega arith)
+    (λ c. omega arith)
     loop-again
     returns)

@@ -8,15 +8,6 @@ use Rattle.grid.specs.Numbers.{bandStep, bandEnd}
 use Rattle.grid.proofs.band_of.Statement.{statement}
 use Rattle.grid.proofs.band_of.Tie as tie
 
-mul-t5 : tie.Need-mul-t5
-mul-t5 c = search needs
-
-mul-t8 : tie.Need-mul-t8
-mul-t8 c = search needs
-
-mul-t9 : tie.Need-mul-t9
-mul-t9 c = search needs
-
 returns : tie.Need-returns
 unfolding bandStep bandEnd
 returns c = rw (lt-ltb _ 480 (c .if1 .taken)) (refl, omega arith, refl)
@@ -30,4 +21,4 @@ unfolding bandStep bandEnd
 returns-3 c = rw (le-ltb _ 480 (c .before .if1 .left), le-ltb _ 1000 (c .if2 .left)) (refl, omega arith, refl)
 
 pub band-of-spec : {M : Type 1} → statement M
-band-of-spec = tie.close (tie.spec mul-t5 mul-t8 mul-t9 returns returns-2 returns-3)
+band-of-spec = tie.close (tie.spec (λ c. search needs) (λ c. search needs) (λ c. search needs) returns returns-2 returns-3)

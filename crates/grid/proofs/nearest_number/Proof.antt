@@ -12,53 +12,14 @@ use Rattle.grid.proofs.nearest_number.Tie as tie
 strides : (c : tie.After-stride-of) → (1 ≤ c .stride-of .result) × (c .stride-of .result ≤ 4)
 strides c = let t = c .before .args .tier in rw (c .stride-of .ensures) (stride-pos t, stride-le t)
 
-stride-of-requires : tie.Need-stride-of-requires
-stride-of-requires c κs = search needs
-
-cast-stride : tie.Need-cast-stride
-cast-stride c = search needs
-
-mul-rounded : tie.Need-mul-rounded
-mul-rounded c = search needs
-
 rounded-requires : tie.Need-rounded-requires
 rounded-requires c κs = omega (arith, strides (c .before))
-
-mul-result : tie.Need-mul-result
-mul-result c = search needs
-
-cast-result : tie.Need-cast-result
-cast-result c = search needs
-
-mul-rounded-2 : tie.Need-mul-rounded-2
-mul-rounded-2 c = search needs
 
 rounded-requires-2 : tie.Need-rounded-requires-2
 rounded-requires-2 c κs = omega (arith, strides (c .before .before))
 
-mul-result-2 : tie.Need-mul-result-2
-mul-result-2 c = search needs
-
-add-result : tie.Need-add-result
-add-result c = search needs
-
-cast-result-2 : tie.Need-cast-result-2
-cast-result-2 c = search needs
-
-mul-rounded-3 : tie.Need-mul-rounded-3
-mul-rounded-3 c = search needs
-
 rounded-requires-3 : tie.Need-rounded-requires-3
 rounded-requires-3 c κs = omega (arith, strides (c .before .before))
-
-mul-result-3 : tie.Need-mul-result-3
-mul-result-3 c = search needs
-
-add-result-2 : tie.Need-add-result-2
-add-result-2 c = search needs
-
-cast-result-3 : tie.Need-cast-result-3
-cast-result-3 c = search needs
 
 returns : tie.Need-returns
 returns c =
@@ -82,22 +43,22 @@ pub nearest-number-spec : {M : Type 1} → statement M
 nearest-number-spec =
     tie.close
     (tie.spec
-    stride-of-requires
-    cast-stride
-    mul-rounded
+    (λ c κs. search needs)
+    (λ c. search needs)
+    (λ c. search needs)
     rounded-requires
-    mul-result
-    cast-result
-    mul-rounded-2
+    (λ c. search needs)
+    (λ c. search needs)
+    (λ c. search needs)
     rounded-requires-2
-    mul-result-2
-    add-result
-    cast-result-2
-    mul-rounded-3
+    (λ c. search needs)
+    (λ c. search needs)
+    (λ c. search needs)
+    (λ c. search needs)
     rounded-requires-3
-    mul-result-3
-    add-result-2
-    cast-result-3
+    (λ c. search needs)
+    (λ c. search needs)
+    (λ c. search needs)
     returns
     returns-2
     returns-3)

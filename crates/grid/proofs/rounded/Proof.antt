@@ -7,12 +7,6 @@ use Rattle.grid.proofs.Nearest.{round-down, round-up}
 use Rattle.grid.proofs.rounded.Statement.{statement}
 use Rattle.grid.proofs.rounded.Tie as tie
 
-div-below : tie.Need-div-below
-div-below c = search needs
-
-rem-if1 : tie.Need-rem-if1
-rem-if1 c = search needs
-
 mul-if1 : tie.Need-mul-if1
 mul-if1 c = omega (arith, mod-le (c .args .height) (c .args .step))
 
@@ -26,4 +20,4 @@ returns-2 : tie.Need-returns-2
 returns-2 c = round-up (c .before .args .height) (c .before .args .step) (omega arith) (omega arith)
 
 pub rounded-spec : {M : Type 1} → statement M
-rounded-spec = tie.close (tie.spec div-below rem-if1 mul-if1 add-result returns returns-2)
+rounded-spec = tie.close (tie.spec (λ c. search needs) (λ c. search needs) mul-if1 add-result returns returns-2)

@@ -20,27 +20,9 @@ Inv-loop calendar₀ day₀ calendar day = (day ≤ 36525) × (length calendar �
 abbrev μ-loop : tie.MeasureT-loop
 μ-loop calendar₀ day₀ calendar day = 36525 - day
 
-clear-requires : tie.Need-clear-requires Inv-loop μ-loop
-clear-requires c κs = search needs
-
 loop-holds : tie.Need-loop-holds Inv-loop μ-loop
 loop-holds c =
     (search needs, search needs, λ n. ap (λ (l : List ℕ). session l n) (c .before .before .clear .ensures) ∙ none-yet (length (c .before .before .before .before .before .args .calendar .now)) n)
-
-cast-loop : tie.Need-cast-loop Inv-loop μ-loop
-cast-loop c = search needs
-
-is-weekday-requires : tie.Need-is-weekday-requires Inv-loop μ-loop
-is-weekday-requires c κs = search needs
-
-set-session-requires : tie.Need-set-session-requires Inv-loop μ-loop
-set-session-requires c κs = search needs
-
-add-day : tie.Need-add-day Inv-loop μ-loop
-add-day c = search needs
-
-loop-less : tie.Need-loop-less Inv-loop μ-loop
-loop-less c = search needs
 
 loop-again : tie.Need-loop-again Inv-loop μ-loop
 loop-again c =
@@ -58,9 +40,6 @@ loop-again c =
           (c .if1 .came),
     )
 
-same-length : tie.Need-same-length Inv-loop μ-loop
-same-length c = search needs
-
 returns : tie.Need-returns Inv-loop μ-loop
 returns c n = let e : c .before .loop .day ≡ 36525 = omega arith in rw e at (c .before .loop .inv .2 n)
 
@@ -70,13 +49,13 @@ set-weekdays-spec =
     (tie.spec
     Inv-loop
     μ-loop
-    clear-requires
+    (λ c κs. search needs)
     loop-holds
-    cast-loop
-    is-weekday-requires
-    set-session-requires
-    add-day
-    loop-less
+    (λ c. search needs)
+    (λ c κs. search needs)
+    (λ c κs. search needs)
+    (λ c. search needs)
+    (λ c. search needs)
     loop-again
-    same-length
+    (λ c. search needs)
     returns)

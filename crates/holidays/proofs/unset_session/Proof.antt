@@ -6,21 +6,6 @@ use Rattle.holidays.specs.Sessions.{withoutSession}
 use Rattle.holidays.proofs.unset_session.Statement.{statement}
 use Rattle.holidays.proofs.unset_session.Tie as tie
 
-cast-at : tie.Need-cast-at
-cast-at c = search needs
-
-slice-read-calendar : tie.Need-slice-read-calendar
-slice-read-calendar c = search needs
-
-weight-requires : tie.Need-weight-requires
-weight-requires c κs = search needs
-
-slice-write-calendar : tie.Need-slice-write-calendar
-slice-write-calendar c = search needs
-
-same-length : tie.Need-same-length
-same-length c = search needs
-
 returns : tie.Need-returns
 unfolding withoutSession
 returns c = rw (c .weight .ensures)
@@ -33,10 +18,10 @@ pub unset-session-spec : {M : Type 1} → statement M
 unset-session-spec =
     tie.close
     (tie.spec
-    cast-at
-    slice-read-calendar
-    weight-requires
-    slice-write-calendar
-    same-length
+    (λ c. search needs)
+    (λ c. search needs)
+    (λ c κs. search needs)
+    (λ c. search needs)
+    (λ c. search needs)
     returns
     returns-2)

@@ -6,14 +6,8 @@ use borrow.Author.Needs.{needs}
 use Rattle.holidays.proofs.weight.Statement.{statement}
 use Rattle.holidays.proofs.weight.Tie as tie
 
-cast-result : tie.Need-cast-result
-cast-result c = search needs
-
-shl-result : tie.Need-shl-result
-shl-result c = search needs
-
 returns : tie.Need-returns
 returns c = let h : 2 ^ (c .args .day % 8) < 256 = pow-lt {j = 8} (omega arith) in omega arith
 
 pub weight-spec : {M : Type 1} → statement M
-weight-spec = tie.close (tie.spec cast-result shl-result returns)
+weight-spec = tie.close (tie.spec (λ c. search needs) (λ c. search needs) returns)

@@ -7,12 +7,6 @@ use Rattle.ladders.specs.Writing.{addedOrigin}
 use Rattle.ladders.proofs.added_origin.Statement.{statement}
 use Rattle.ladders.proofs.added_origin.Tie as tie
 
-covers-requires : tie.Need-covers-requires
-covers-requires c κs = search needs
-
-covers-requires-2 : tie.Need-covers-requires-2
-covers-requires-2 c κs = search needs
-
 returns : tie.Need-returns
 unfolding addedOrigin
 returns c = rw (eq-eqb _ _ (c .if1 .taken))
@@ -35,4 +29,4 @@ returns-4 c =
 
 pub added-origin-spec : {M : Type 1} → statement M
 added-origin-spec =
-    tie.close (tie.spec covers-requires covers-requires-2 returns returns-2 returns-3 returns-4)
+    tie.close (tie.spec (λ c κs. search needs) (λ c κs. search needs) returns returns-2 returns-3 returns-4)

@@ -12,12 +12,6 @@ returns c =
     let a = c .before .before .args in
     sym (next-none (a .plan) (a .old .now) (c .if1 .taken))
 
-word-requires : tie.Need-word-requires
-word-requires c κs = search needs
-
-word-requires-2 : tie.Need-word-requires-2
-word-requires-2 c κs = search needs
-
 returns-2 : tie.Need-returns-2
 returns-2 c =
     let w = c .before .before .before in
@@ -31,4 +25,4 @@ returns-3 c =
     sym (next-is (a .plan) (a .old .now) (w .before .if1 .left) ∙ rw (← w .word .ensures, ne-eqb _ _ (c .if2 .left)))
 
 pub next-price-spec : {M : Type 1} → statement M
-next-price-spec = tie.close (tie.spec returns word-requires word-requires-2 returns-2 returns-3)
+next-price-spec = tie.close (tie.spec returns (λ c κs. search needs) (λ c κs. search needs) returns-2 returns-3)

@@ -26,26 +26,11 @@ there c =
     let s = start (c .before) in
     old-there (s .args .plan) (s .args .old .now) (s .args .price) (c .before .band-of .result .step) (step-is (c .before)) (s .pre .0) (next c)
 
-next-price-requires : tie.Need-next-price-requires
-next-price-requires c κs = search needs
-
-stride-of-requires : tie.Need-stride-of-requires
-stride-of-requires c κs = search needs
-
-cast-band-of : tie.Need-cast-band-of
-cast-band-of c = search needs
-
 band-of-requires : tie.Need-band-of-requires
 band-of-requires c κs = omega (arith, c .stride-of .ensures, stride-le (c .before .before .before .args .plan .tier))
 
-cast-if1 : tie.Need-cast-if1
-cast-if1 c = search needs
-
 word-requires : tie.Need-word-requires
 word-requires c κs = omega (arith, there c)
-
-add-t13 : tie.Need-add-t13
-add-t13 c = search needs
 
 shared-slice-read-t15 : tie.Need-shared-slice-read-t15
 shared-slice-read-t15 c = omega (arith, there (c .before .before))
@@ -55,15 +40,6 @@ returns c =
     let t = c .before .before in
     let s = start (t .before) in
     rw (c .before .word .ensures) (old-alike (s .args .plan) (s .args .old .now) (s .args .price) (t .before .band-of .result .step) (step-is (t .before)) (s .pre .0) (next t))
-
-cast-added-origin : tie.Need-cast-added-origin
-cast-added-origin c = search needs
-
-added-origin-requires : tie.Need-added-origin-requires
-added-origin-requires c κs = search needs
-
-stretch-end-requires : tie.Need-stretch-end-requires
-stretch-end-requires c κs = search needs
 
 returns-2 : tie.Need-returns-2
 returns-2 c =
@@ -79,16 +55,16 @@ pub stretch-from-spec : {M : Type 1} → statement M
 stretch-from-spec =
     tie.close
     (tie.spec
-    next-price-requires
-    stride-of-requires
-    cast-band-of
+    (λ c κs. search needs)
+    (λ c κs. search needs)
+    (λ c. search needs)
     band-of-requires
-    cast-if1
+    (λ c. search needs)
     word-requires
-    add-t13
+    (λ c. search needs)
     shared-slice-read-t15
     returns
-    cast-added-origin
-    added-origin-requires
-    stretch-end-requires
+    (λ c. search needs)
+    (λ c κs. search needs)
+    (λ c κs. search needs)
     returns-2)

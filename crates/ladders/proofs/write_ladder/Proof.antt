@@ -47,12 +47,6 @@ taken c =
 abbrev joined : tie.After-struct-known5 Inv-loop μ-loop → tie.Joined1 Inv-loop μ-loop
 joined c = c .before .before .before .before .before
 
-cast-high : tie.Need-cast-high Inv-loop μ-loop
-cast-high c = search needs
-
-cast-price : tie.Need-cast-price Inv-loop μ-loop
-cast-price c = search needs
-
 loop-holds : tie.Need-loop-holds Inv-loop μ-loop
 loop-holds c =
     let s = c .before .before .before .before in
@@ -63,9 +57,6 @@ sub-stretch-from c = c .before .before .before .loop .inv .inv .from-in
 
 part-stretch-from-start : tie.Need-part-stretch-from-start Inv-loop μ-loop
 part-stretch-from-start c = c .before .before .before .loop .inv .inv .from-in
-
-part-stretch-from-end : tie.Need-part-stretch-from-end Inv-loop μ-loop
-part-stretch-from-end c = search needs
 
 stretch-from-requires : tie.Need-stretch-from-requires Inv-loop μ-loop
 stretch-from-requires c κs =
@@ -85,12 +76,6 @@ sub-write-row c = omega (arith, fits (c .before .before))
 
 part-write-row-start : tie.Need-part-write-row-start Inv-loop μ-loop
 part-write-row-start c = omega (arith, fits (c .before .before))
-
-part-write-row-end : tie.Need-part-write-row-end Inv-loop μ-loop
-part-write-row-end c = search needs
-
-cast-write-row : tie.Need-cast-write-row Inv-loop μ-loop
-cast-write-row c = search needs
 
 write-row-requires : tie.Need-write-row-requires Inv-loop μ-loop
 write-row-requires c κs = rw whole-part (simp length-drop (omega (arith, fits (c .before .before .before))))
@@ -148,18 +133,18 @@ write-ladder-spec =
     (tie.spec
     Inv-loop
     μ-loop
-    cast-high
-    cast-price
+    (λ c. search needs)
+    (λ c. search needs)
     loop-holds
     sub-stretch-from
     part-stretch-from-start
-    part-stretch-from-end
+    (λ c. search needs)
     stretch-from-requires
     add-from
     sub-write-row
     part-write-row-start
-    part-write-row-end
-    cast-write-row
+    (λ c. search needs)
+    (λ c. search needs)
     write-row-requires
     add-at
     add-price

@@ -63,17 +63,11 @@ sub-write-ladder c = at-fits (c .before .before)
 part-write-ladder-start : tie.Need-part-write-ladder-start Inv-loop μ-loop
 part-write-ladder-start c = at-fits (c .before .before)
 
-part-write-ladder-end : tie.Need-part-write-ladder-end Inv-loop μ-loop
-part-write-ladder-end c = search needs
-
 sub-write-ladder-2 : tie.Need-sub-write-ladder-2 Inv-loop μ-loop
 sub-write-ladder-2 c = c .before .before .before .loop .inv .from-in
 
 part-write-ladder-start-2 : tie.Need-part-write-ladder-start-2 Inv-loop μ-loop
 part-write-ladder-start-2 c = c .before .before .before .loop .inv .from-in
-
-part-write-ladder-end-2 : tie.Need-part-write-ladder-end-2 Inv-loop μ-loop
-part-write-ladder-end-2 c = search needs
 
 write-ladder-requires : tie.Need-write-ladder-requires Inv-loop μ-loop
 write-ladder-requires c κs =
@@ -120,12 +114,6 @@ sub-clear c = at-fits (c .before)
 part-clear-start : tie.Need-part-clear-start Inv-loop μ-loop
 part-clear-start c = at-fits (c .before)
 
-part-clear-end : tie.Need-part-clear-end Inv-loop μ-loop
-part-clear-end c = search needs
-
-clear-requires : tie.Need-clear-requires Inv-loop μ-loop
-clear-requires c κs = search needs
-
 same-length : tie.Need-same-length Inv-loop μ-loop
 same-length c = c .before .register2 .given .1 ∙ c .before .before .before .before .before .loop .inv .size
 
@@ -150,10 +138,10 @@ write-ladders-spec =
     plan-at-requires
     sub-write-ladder
     part-write-ladder-start
-    part-write-ladder-end
+    (λ c. search needs)
     sub-write-ladder-2
     part-write-ladder-start-2
-    part-write-ladder-end-2
+    (λ c. search needs)
     write-ladder-requires
     add-at
     add-from
@@ -162,7 +150,7 @@ write-ladders-spec =
     loop-again
     sub-clear
     part-clear-start
-    part-clear-end
-    clear-requires
+    (λ c. search needs)
+    (λ c κs. search needs)
     same-length
     returns)

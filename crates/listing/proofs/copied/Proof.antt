@@ -27,18 +27,6 @@ whole i l m h a b e = sym (take-all i l (omega arith)) ∙ e ∙ take-all i m (o
 loop-holds : tie.Need-loop-holds Inv-loop μ-loop
 loop-holds c = (omega arith, refl, refl)
 
-shared-slice-read-copy : tie.Need-shared-slice-read-copy Inv-loop μ-loop
-shared-slice-read-copy c = omega arith
-
-array-write-copy : tie.Need-array-write-copy Inv-loop μ-loop
-array-write-copy c = omega arith
-
-add-i : tie.Need-add-i Inv-loop μ-loop
-add-i c = omega arith
-
-loop-less : tie.Need-loop-less Inv-loop μ-loop
-loop-less c = omega arith
-
 loop-again : tie.Need-loop-again Inv-loop μ-loop
 loop-again c =
     let at = c .before .before in
@@ -62,9 +50,9 @@ copied-spec =
     Inv-loop
     μ-loop
     loop-holds
-    shared-slice-read-copy
-    array-write-copy
-    add-i
-    loop-less
+    (λ c. omega arith)
+    (λ c. omega arith)
+    (λ c. omega arith)
+    (λ c. omega arith)
     loop-again
     returns)

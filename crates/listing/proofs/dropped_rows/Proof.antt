@@ -10,29 +10,8 @@ use Rattle.listing.specs.Writing.{droppedRows}
 use Rattle.listing.proofs.dropped_rows.Statement.{statement}
 use Rattle.listing.proofs.dropped_rows.Tie as tie
 
-array-read-number-of : tie.Need-array-read-number-of
-array-read-number-of c = search needs
-
-cast-number-of : tie.Need-cast-number-of
-cast-number-of c = search needs
-
-number-of-requires : tie.Need-number-of-requires
-number-of-requires c κs = search needs
-
 add-result : tie.Need-add-result
 add-result c = omega (arith, c .number-of .ensures, number-le (getD (c .before .before .args .t3) 1 0))
-
-array-read-number-of-2 : tie.Need-array-read-number-of-2
-array-read-number-of-2 c = search needs
-
-cast-number-of-2 : tie.Need-cast-number-of-2
-cast-number-of-2 c = search needs
-
-number-of-requires-2 : tie.Need-number-of-requires-2
-number-of-requires-2 c κs = search needs
-
-sub-result : tie.Need-sub-result
-sub-result c = search needs
 
 returns : tie.Need-returns
 unfolding droppedRows
@@ -46,13 +25,13 @@ pub dropped-rows-spec : {M : Type 1} → statement M
 dropped-rows-spec =
     tie.close
     (tie.spec
-    array-read-number-of
-    cast-number-of
-    number-of-requires
+    (λ c. search needs)
+    (λ c. search needs)
+    (λ c κs. search needs)
     add-result
-    array-read-number-of-2
-    cast-number-of-2
-    number-of-requires-2
-    sub-result
+    (λ c. search needs)
+    (λ c. search needs)
+    (λ c κs. search needs)
+    (λ c. search needs)
     returns
     returns-2)

@@ -14,12 +14,6 @@ use Rattle.listing.proofs.list.Tie as tie
 abbrev plans : tie.Start → ℕ → Plan
 plans s = planAt (s .args .day) (s .args .origin) (s .args .months) (s .args .held) (s .args .wide) (s .args .spans)
 
-write-ladders-requires : tie.Need-write-ladders-requires
-write-ladders-requires c κs = search needs
-
-sub-count : tie.Need-sub-count
-sub-count c = search needs
-
 cast-count : tie.Need-cast-count
 cast-count c =
     let w = c .before .before in
@@ -30,9 +24,6 @@ write-head-requires : tie.Need-write-head-requires
 write-head-requires c κs =
     let s = c .before .before .before .before .before .before .before in
     c .before .before .register .given ∙ s .pre .0
-
-same-length : tie.Need-same-length
-same-length c = search needs
 
 returns : tie.Need-returns
 returns c =
@@ -46,9 +37,9 @@ pub list-spec : {M : Type 1} → statement M
 list-spec =
     tie.close
     (tie.spec
-    write-ladders-requires
-    sub-count
+    (λ c κs. search needs)
+    (λ c. search needs)
     cast-count
     write-head-requires
-    same-length
+    (λ c. search needs)
     returns)

@@ -91,12 +91,6 @@ taken-up c =
 rows-is : (c : tie.After-new-spans) → c .before .before .before .before .before .before .before .before .before .before .before .word .result ≡ at16 (bs (start₃ c)) 4
 rows-is c = c .before .before .before .before .before .before .before .before .before .before .before .word .ensures
 
-word-requires : tie.Need-word-requires
-word-requires c κs = search needs
-
-word-requires-2 : tie.Need-word-requires-2
-word-requires-2 c κs = search needs
-
 first-live-requires : tie.Need-first-live-requires
 unfolding momentOf
 first-live-requires c κs =
@@ -118,16 +112,10 @@ live-months-requires-2 c κs =
     let s = start₁ k in
     omega (arith, before-is k, run-first (cal s) (bs s) (size s) (run s))
 
-held-spans-requires : tie.Need-held-spans-requires
-held-spans-requires c κs = search needs
-
 close-spans-requires : tie.Need-close-spans-requires
 close-spans-requires c κs =
     let s = start₂ (c .before) in
     (first-in (c .before .before), close-low (cal s) (moved (momentOf (bs s)) (s .args .day)) (s .args .close) (s .pre .1 .0), close-high (cal s) (moved (momentOf (bs s)) (s .args .day)) (s .args .close) (s .pre .1 .0))
-
-slice-read-waiting : tie.Need-slice-read-waiting
-slice-read-waiting c = search needs
 
 cast-waiting : tie.Need-cast-waiting
 cast-waiting c =
@@ -139,15 +127,6 @@ new-spans-requires c κs =
     let s = start₂ (c .before .before .before .before) in
     (size s, run-keeps (cal s) (bs s) (size s) (run s) .waiting)
 
-same-spans-requires : tie.Need-same-spans-requires
-same-spans-requires c κs = search needs
-
-write-head-requires : tie.Need-write-head-requires
-write-head-requires c κs = search needs
-
-same-length : tie.Need-same-length
-same-length c = search needs
-
 returns : tie.Need-returns
 unfolding bodyOf
 returns c =
@@ -155,9 +134,6 @@ returns c =
     let e = h .before .before .before in
     let k = e .before .before in
     up-head (taken-up k) (rows-is k) (e .before .if1 .taken) (sym (e .same-spans .ensures) ∙ h .before .before .if2 .taken) (h .write-head .ensures)
-
-array-copy-out-dropped-rows : tie.Need-array-copy-out-dropped-rows
-array-copy-out-dropped-rows c = search needs
 
 dropped-rows-requires : tie.Need-dropped-rows-requires
 dropped-rows-requires c κs = up-order (taken-up (c .before .before))
@@ -192,9 +168,6 @@ sub-t38 c =
     let k = d .before .before .before in
     up-relisted (taken-up k) (rows-is k) (d .dropped-rows .ensures) (r .relist .ensures .0) (r .relist .ensures .1) .0
 
-same-length-2 : tie.Need-same-length-2
-same-length-2 c = search needs
-
 returns-2 : tie.Need-returns-2
 unfolding bodyOf
 returns-2 c =
@@ -208,25 +181,25 @@ pub list-session-spec : {M : Type 1} → statement M
 list-session-spec =
     tie.close
     (tie.spec
-    word-requires
-    word-requires-2
+    (λ c κs. search needs)
+    (λ c κs. search needs)
     first-live-requires
     first-live-requires-2
     live-months-requires
     live-months-requires-2
-    held-spans-requires
+    (λ c κs. search needs)
     close-spans-requires
-    slice-read-waiting
+    (λ c. search needs)
     cast-waiting
     new-spans-requires
-    same-spans-requires
-    write-head-requires
-    same-length
+    (λ c κs. search needs)
+    (λ c κs. search needs)
+    (λ c. search needs)
     returns
-    array-copy-out-dropped-rows
+    (λ c. search needs)
     dropped-rows-requires
     relist-requires
     add-t19
     sub-t38
-    same-length-2
+    (λ c. search needs)
     returns-2)

@@ -47,24 +47,12 @@ close-spans-requires c κs =
     rw (months-are c)
     (omega arith, close-low (s .args .calendar .now) (begun (s .args .day)) (s .args .close) (s .pre .1), close-high (s .args .calendar .now) (begun (s .args .day)) (s .args .close) (s .pre .1))
 
-sub-list : tie.Need-sub-list
-sub-list c = search needs
-
-part-list-start : tie.Need-part-list-start
-part-list-start c = search needs
-
-part-list-end : tie.Need-part-list-end
-part-list-end c = search needs
-
 list-requires : tie.Need-list-requires
 unfolding liveMonths
 list-requires c κs =
     let k = c .before .before .before in
     let s = k .before .before .before .before .before in
     rw (spans-are k, months-are (k .before)) (s .pre .0, start-ready (s .args .calendar .now) (s .args .day) (s .args .close) (s .pre .1))
-
-same-length : tie.Need-same-length
-same-length c = search needs
 
 returns : tie.Need-returns
 unfolding rowsIn readRows
@@ -83,9 +71,9 @@ list-start-spec =
     first-live-requires
     live-months-requires
     close-spans-requires
-    sub-list
-    part-list-start
-    part-list-end
+    (λ c. search needs)
+    (λ c. search needs)
+    (λ c. search needs)
     list-requires
-    same-length
+    (λ c. search needs)
     returns)

@@ -10,9 +10,6 @@ use Rattle.listing.proofs.listing_cause.Tie as tie
 returns : tie.Need-returns
 returns c = sym (late _ _ (c .if1 .taken))
 
-close-taken-requires : tie.Need-close-taken-requires
-close-taken-requires c κs = search needs
-
 returns-2 : tie.Need-returns-2
 unfolding cause
 returns-2 c = sym (in-time _ _ (c .before .before .if1 .left) ∙ rw (sym (c .before .close-taken .ensures) ∙ c .if2 .taken))
@@ -26,6 +23,6 @@ listing-cause-spec =
     tie.close
     (tie.spec
     returns
-    close-taken-requires
+    (λ c κs. search needs)
     returns-2
     returns-3)

@@ -54,15 +54,6 @@ taken c =
     let s = start e in
     session-taken (cal s) (s .args .day) (s .args .close) (body e) (runs e .reads .passes) (sym (c .before .session-cause .ensures) ∙ c .if3 .left)
 
-opening-requires : tie.Need-opening-requires
-opening-requires c κs = search needs
-
-refused-requires : tie.Need-refused-requires
-refused-requires c κs = search needs
-
-same-length : tie.Need-same-length
-same-length c = search needs
-
 returns : tie.Need-returns
 unfolding number
 returns c =
@@ -75,18 +66,6 @@ standing-requires : tie.Need-standing-requires
 standing-requires c κs =
     let o = c .before .before .before in
     opening-goes (cal (entry o)) (bs (entry o)) (o .opening .result) (o .opening .ensures) (c .before .if1 .left)
-
-array-copy-out-span : tie.Need-array-copy-out-span
-array-copy-out-span c = search needs
-
-array-read-if2 : tie.Need-array-read-if2
-array-read-if2 c = search needs
-
-refused-requires-2 : tie.Need-refused-requires-2
-refused-requires-2 c κs = search needs
-
-same-length-2 : tie.Need-same-length-2
-same-length-2 c = search needs
 
 returns-2 : tie.Need-returns-2
 returns-2 c =
@@ -102,12 +81,6 @@ session-cause-requires c κs =
     let e = c .before in
     let r = runs e in
     (r .reads .passes, r .reads .size, run-day (cal (start e)) (bs (start e)) (r .reads .size) (r .run))
-
-refused-requires-3 : tie.Need-refused-requires-3
-refused-requires-3 c κs = search needs
-
-same-length-3 : tie.Need-same-length-3
-same-length-3 c = search needs
 
 returns-3 : tie.Need-returns-3
 returns-3 c =
@@ -128,9 +101,6 @@ list-session-requires c κs =
     let e = c .before .before .before .before in
     ((runs e .reads .size, runs e .well, e .before .before .standing .ensures), taken (c .before))
 
-same-length-4 : tie.Need-same-length-4
-same-length-4 c = search needs
-
 returns-4 : tie.Need-returns-4
 unfolding accepted rules bodyOf
 returns-4 c =
@@ -145,21 +115,21 @@ pub session-spec : {M : Type 1} → statement M
 session-spec =
     tie.close
     (tie.spec
-    opening-requires
-    refused-requires
-    same-length
+    (λ c κs. search needs)
+    (λ c κs. search needs)
+    (λ c. search needs)
     returns
     standing-requires
-    array-copy-out-span
-    array-read-if2
-    refused-requires-2
-    same-length-2
+    (λ c. search needs)
+    (λ c. search needs)
+    (λ c κs. search needs)
+    (λ c. search needs)
     returns-2
     session-cause-requires
-    refused-requires-3
-    same-length-3
+    (λ c κs. search needs)
+    (λ c. search needs)
     returns-3
     cast-list-session
     list-session-requires
-    same-length-4
+    (λ c. search needs)
     returns-4)

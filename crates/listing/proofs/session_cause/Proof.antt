@@ -18,15 +18,9 @@ use Rattle.listing.proofs.Causes.{late, no-session, session-goes}
 use Rattle.listing.proofs.session_cause.Statement.{statement}
 use Rattle.listing.proofs.session_cause.Tie as tie
 
-word-requires : tie.Need-word-requires
-word-requires c κs = search needs
-
 next-session-requires : tie.Need-next-session-requires
 unfolding momentOf
 next-session-requires c κs = search needs
-
-cast-if1 : tie.Need-cast-if1
-cast-if1 c = search needs
 
 returns : tie.Need-returns
 unfolding bodyOf momentOf
@@ -52,12 +46,6 @@ returns-2 c =
     let a = e .before .before .before .before .before .args in
     sym (goes e ∙ late _ _ (rw (live-past (expiryOf (a .calendar .now)) (expiry-below _) (e .before .next-session .result) (c .if2 .taken)) (omega arith)))
 
-first-live-requires : tie.Need-first-live-requires
-first-live-requires c κs = search needs
-
-listing-cause-requires : tie.Need-listing-cause-requires
-listing-cause-requires c κs = search needs
-
 returns-3 : tie.Need-returns-3
 returns-3 c = rw (c .before .first-live .ensures) at (c .listing-cause .ensures) ∙ sym (goes (c .before .before .before))
 
@@ -65,11 +53,11 @@ pub session-cause-spec : {M : Type 1} → statement M
 session-cause-spec =
     tie.close
     (tie.spec
-    word-requires
+    (λ c κs. search needs)
     next-session-requires
-    cast-if1
+    (λ c. search needs)
     returns
     returns-2
-    first-live-requires
-    listing-cause-requires
+    (λ c κs. search needs)
+    (λ c κs. search needs)
     returns-3)

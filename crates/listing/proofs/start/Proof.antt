@@ -43,17 +43,8 @@ taken c =
     let s = entry (t .before .before) in
     start-taken (cal s) (s .args .day) (s .args .close) (empties t .passes) (sym (c .before .start-cause .ensures) ∙ c .if2 .left)
 
-opening-requires : tie.Need-opening-requires
-opening-requires c κs = search needs
-
 start-cause-requires : tie.Need-start-cause-requires
 start-cause-requires c κs = empties c .passes
-
-refused-requires : tie.Need-refused-requires
-refused-requires c κs = search needs
-
-same-length : tie.Need-same-length
-same-length c = search needs
 
 returns : tie.Need-returns
 returns c =
@@ -72,9 +63,6 @@ cast-list-start c =
 list-start-requires : tie.Need-list-start-requires
 list-start-requires c κs = (empties (c .before .before .before) .size, taken (c .before))
 
-same-length-2 : tie.Need-same-length-2
-same-length-2 c = search needs
-
 returns-2 : tie.Need-returns-2
 unfolding accepted rules
 returns-2 c =
@@ -84,12 +72,6 @@ returns-2 c =
     let s = entry (t .before .before) in
     accepted-listed (cal s) (bs s) (call s) empty (empties t) (sym (n .before .start-cause .ensures) ∙ n .if2 .left)
     (r .list-start .result) (r .list-start .last .1 .0) (r .list-start .ensures .0) (r .list-start .ensures .1)
-
-refused-requires-2 : tie.Need-refused-requires-2
-refused-requires-2 c κs = search needs
-
-same-length-3 : tie.Need-same-length-3
-same-length-3 c = search needs
 
 returns-3 : tie.Need-returns-3
 returns-3 c =
@@ -104,21 +86,6 @@ standing-requires c κs =
     let o = c .before .before .before .before .before in
     opening-goes (cal (entry o)) (bs (entry o)) (o .opening .result) (o .opening .ensures) (c .before .if3 .left)
 
-array-copy-out-span : tie.Need-array-copy-out-span
-array-copy-out-span c = search needs
-
-array-read-if4 : tie.Need-array-read-if4
-array-read-if4 c = search needs
-
-refused-requires-3 : tie.Need-refused-requires-3
-refused-requires-3 c κs = search needs
-
-refused-requires-4 : tie.Need-refused-requires-4
-refused-requires-4 c κs = search needs
-
-same-length-4 : tie.Need-same-length-4
-same-length-4 c = search needs
-
 returns-4 : tie.Need-returns-4
 returns-4 c =
     let k = c .before .before .before in
@@ -127,9 +94,6 @@ returns-4 c =
     let s = entry o in
     let x = refused-listed (cal s) (bs s) (call s) (standing-refused (cal s) (bs s) (o .opening .result) (o .opening .ensures) (e .if3 .left) (k .standing .result) (k .standing .ensures) (c .before .if4 .taken) _) in
     (c .refused3 .ensures ∙ x .0, x .1)
-
-same-length-5 : tie.Need-same-length-5
-same-length-5 c = search needs
 
 returns-5 : tie.Need-returns-5
 unfolding number
@@ -146,24 +110,24 @@ pub start-spec : {M : Type 1} → statement M
 start-spec =
     tie.close
     (tie.spec
-    opening-requires
+    (λ c κs. search needs)
     start-cause-requires
-    refused-requires
-    same-length
+    (λ c κs. search needs)
+    (λ c. search needs)
     returns
     cast-list-start
     list-start-requires
-    same-length-2
+    (λ c. search needs)
     returns-2
-    refused-requires-2
-    same-length-3
+    (λ c κs. search needs)
+    (λ c. search needs)
     returns-3
     standing-requires
-    array-copy-out-span
-    array-read-if4
-    refused-requires-3
-    refused-requires-4
-    same-length-4
+    (λ c. search needs)
+    (λ c. search needs)
+    (λ c κs. search needs)
+    (λ c κs. search needs)
+    (λ c. search needs)
     returns-4
-    same-length-5
+    (λ c. search needs)
     returns-5)

@@ -12,33 +12,15 @@ use Rattle.listing.proofs.Causes.{no-start, start-goes}
 use Rattle.listing.proofs.start_cause.Statement.{statement}
 use Rattle.listing.proofs.start_cause.Tie as tie
 
-cast-if1 : tie.Need-cast-if1
-cast-if1 c = search needs
-
 returns : tie.Need-returns
 returns c =
     let a = c .before .before .args in
     sym (no-start (a .calendar .now) (a .day) (a .close) (rw (le-ltb _ _ (c .if1 .taken))))
 
-cast-has-session : tie.Need-cast-has-session
-cast-has-session c = search needs
-
-has-session-requires : tie.Need-has-session-requires
-has-session-requires c κs = search needs
-
 returns-2 : tie.Need-returns-2
 returns-2 c =
     let a = c .before .before .before .before .args in
     sym (no-start (a .calendar .now) (a .day) (a .close) (and-no (ltb (a .day) dayCount) _ (sym (c .before .has-session .ensures) ∙ not-true _ (c .if2 .taken))))
-
-cast-first-live : tie.Need-cast-first-live
-cast-first-live c = search needs
-
-first-live-requires : tie.Need-first-live-requires
-first-live-requires c κs = search needs
-
-listing-cause-requires : tie.Need-listing-cause-requires
-listing-cause-requires c κs = search needs
 
 returns-3 : tie.Need-returns-3
 unfolding begun
@@ -54,12 +36,12 @@ pub start-cause-spec : {M : Type 1} → statement M
 start-cause-spec =
     tie.close
     (tie.spec
-    cast-if1
+    (λ c. search needs)
     returns
-    cast-has-session
-    has-session-requires
+    (λ c. search needs)
+    (λ c κs. search needs)
     returns-2
-    cast-first-live
-    first-live-requires
-    listing-cause-requires
+    (λ c. search needs)
+    (λ c κs. search needs)
+    (λ c κs. search needs)
     returns-3)

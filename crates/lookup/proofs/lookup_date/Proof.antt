@@ -8,32 +8,11 @@ use Rattle.lookup.specs.Lookup.{dateOf}
 use Rattle.lookup.proofs.lookup_date.Statement.{statement}
 use Rattle.lookup.proofs.lookup_date.Tie as tie
 
-cast-if1 : tie.Need-cast-if1
-cast-if1 c = search needs
-
-cast-month-of : tie.Need-cast-month-of
-cast-month-of c = search needs
-
-month-of-requires : tie.Need-month-of-requires
-month-of-requires c κs = search needs
-
-add-t7 : tie.Need-add-t7
-add-t7 c = search needs
-
-add-t9 : tie.Need-add-t9
-add-t9 c = search needs
-
-cast-t10 : tie.Need-cast-t10
-cast-t10 c = search needs
-
 first-day-requires : tie.Need-first-day-requires
 first-day-requires c κs = omega (arith, c .month-of .ensures, month-of-below _ (c .before .if1 .taken))
 
 sub-t12 : tie.Need-sub-t12
 sub-t12 c = rw (c .first-day .ensures, c .before .month-of .ensures) (in-month _ (c .before .before .if1 .taken) .from)
-
-add-t13 : tie.Need-add-t13
-add-t13 c = search needs
 
 returns : tie.Need-returns
 unfolding dateOf
@@ -47,14 +26,14 @@ pub lookup-date-spec : {M : Type 1} → statement M
 lookup-date-spec =
     tie.close
     (tie.spec
-    cast-if1
-    cast-month-of
-    month-of-requires
-    add-t7
-    add-t9
-    cast-t10
+    (λ c. search needs)
+    (λ c. search needs)
+    (λ c κs. search needs)
+    (λ c. search needs)
+    (λ c. search needs)
+    (λ c. search needs)
     first-day-requires
     sub-t12
-    add-t13
+    (λ c. search needs)
     returns
     returns-2)

@@ -5,18 +5,6 @@ use borrow.Author.Tests.{lt-ltb, le-ltb}
 use Rattle.lookup.proofs.lookup_expiry.Statement.{statement}
 use Rattle.lookup.proofs.lookup_expiry.Tie as tie
 
-cast-if1 : tie.Need-cast-if1
-cast-if1 c = search needs
-
-cast-expiry : tie.Need-cast-expiry
-cast-expiry c = search needs
-
-expiry-requires : tie.Need-expiry-requires
-expiry-requires c κs = search needs
-
-cast-result : tie.Need-cast-result
-cast-result c = search needs
-
 returns : tie.Need-returns
 returns c = rw (lt-ltb _ _ (c .before .if1 .taken)) (c .expiry .ensures)
 
@@ -25,4 +13,4 @@ returns-2 c = rw (le-ltb _ _ (c .if1 .left))
 
 pub lookup-expiry-spec : {M : Type 1} → statement M
 lookup-expiry-spec =
-    tie.close (tie.spec cast-if1 cast-expiry expiry-requires cast-result returns returns-2)
+    tie.close (tie.spec (λ c. search needs) (λ c. search needs) (λ c κs. search needs) (λ c. search needs) returns returns-2)

@@ -7,23 +7,11 @@ use Rattle.lookup.proofs.LookupLaws.{check-tells}
 use Rattle.lookup.proofs.lookup_first_live.Statement.{statement}
 use Rattle.lookup.proofs.lookup_first_live.Tie as tie
 
-check-requires : tie.Need-check-requires
-check-requires c κs = search needs
-
 returns : tie.Need-returns
 returns c = rw (← check-tells _ (c .before .before .check .ensures), ne-eqb (c .before .before .check .result .number) 0 (λ e. omega arith))
 
-cast-if2 : tie.Need-cast-if2
-cast-if2 c = search needs
-
-cast-first-live : tie.Need-cast-first-live
-cast-first-live c = search needs
-
 first-live-requires : tie.Need-first-live-requires
 first-live-requires c κs = (omega arith, omega (arith, check-tells _ (c .before .before .before .check .ensures)))
-
-cast-result : tie.Need-cast-result
-cast-result c = search needs
 
 returns-2 : tie.Need-returns-2
 returns-2 c = rw (← check-tells _ (c .before .before .before .before .check .ensures), eq-eqb _ 0 (c .before .before .if1 .left), lt-ltb _ _ (c .before .if2 .taken)) (c .first-live .ensures)
@@ -35,11 +23,11 @@ pub lookup-first-live-spec : {M : Type 1} → statement M
 lookup-first-live-spec =
     tie.close
     (tie.spec
-    check-requires
+    (λ c κs. search needs)
     returns
-    cast-if2
-    cast-first-live
+    (λ c. search needs)
+    (λ c. search needs)
     first-live-requires
-    cast-result
+    (λ c. search needs)
     returns-2
     returns-3)

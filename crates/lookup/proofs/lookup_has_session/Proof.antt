@@ -5,12 +5,6 @@ use borrow.Author.Tests.{le-leb, lt-leb}
 use Rattle.lookup.proofs.lookup_has_session.Statement.{statement}
 use Rattle.lookup.proofs.lookup_has_session.Tie as tie
 
-cast-has-session : tie.Need-cast-has-session
-cast-has-session c = search needs
-
-has-session-requires : tie.Need-has-session-requires
-has-session-requires c κs = search needs
-
 returns : tie.Need-returns
 returns c = rw (le-leb _ _ (c .before .before .if1 .taken), ← c .before .has-session .ensures, c .if2 .taken)
 
@@ -22,4 +16,4 @@ returns-3 c = rw (lt-leb _ _ (c .if1 .left))
 
 pub lookup-has-session-spec : {M : Type 1} → statement M
 lookup-has-session-spec =
-    tie.close (tie.spec cast-has-session has-session-requires returns returns-2 returns-3)
+    tie.close (tie.spec (λ c. search needs) (λ c κs. search needs) returns returns-2 returns-3)

@@ -5,24 +5,6 @@ use borrow.Author.Tests.{le-leb, lt-leb, lt-ltb, le-ltb}
 use Rattle.lookup.proofs.lookup_live_month.Statement.{statement}
 use Rattle.lookup.proofs.lookup_live_month.Tie as tie
 
-cast-if1 : tie.Need-cast-if1
-cast-if1 c = search needs
-
-cast-live-months : tie.Need-cast-live-months
-cast-live-months c = search needs
-
-live-months-requires : tie.Need-live-months-requires
-live-months-requires c κs = search needs
-
-mul-result : tie.Need-mul-result
-mul-result c = search needs
-
-array-read-result : tie.Need-array-read-result
-array-read-result c = search needs
-
-cast-result : tie.Need-cast-result
-cast-result c = search needs
-
 returns : tie.Need-returns
 returns c = rw (le-leb _ _ (c .before .before .if1 .taken), lt-ltb _ _ (c .before .if2 .taken), c .live-months .ensures)
 
@@ -36,12 +18,12 @@ pub lookup-live-month-spec : {M : Type 1} → statement M
 lookup-live-month-spec =
     tie.close
     (tie.spec
-    cast-if1
-    cast-live-months
-    live-months-requires
-    mul-result
-    array-read-result
-    cast-result
+    (λ c. search needs)
+    (λ c. search needs)
+    (λ c κs. search needs)
+    (λ c. search needs)
+    (λ c. search needs)
+    (λ c. search needs)
     returns
     returns-2
     returns-3)

@@ -5,18 +5,6 @@ use borrow.Author.Tests.{lt-ltb, le-ltb}
 use Rattle.lookup.proofs.lookup_month_of.Statement.{statement}
 use Rattle.lookup.proofs.lookup_month_of.Tie as tie
 
-cast-if1 : tie.Need-cast-if1
-cast-if1 c = search needs
-
-cast-month-of : tie.Need-cast-month-of
-cast-month-of c = search needs
-
-month-of-requires : tie.Need-month-of-requires
-month-of-requires c κs = search needs
-
-cast-result : tie.Need-cast-result
-cast-result c = search needs
-
 returns : tie.Need-returns
 returns c = rw (lt-ltb _ _ (c .before .if1 .taken)) (c .month-of .ensures)
 
@@ -25,4 +13,4 @@ returns-2 c = rw (le-ltb _ _ (c .if1 .left))
 
 pub lookup-month-of-spec : {M : Type 1} → statement M
 lookup-month-of-spec =
-    tie.close (tie.spec cast-if1 cast-month-of month-of-requires cast-result returns returns-2)
+    tie.close (tie.spec (λ c. search needs) (λ c. search needs) (λ c κs. search needs) (λ c. search needs) returns returns-2)

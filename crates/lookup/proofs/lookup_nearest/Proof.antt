@@ -7,20 +7,8 @@ use Rattle.lookup.proofs.LookupLaws.{close-bounds}
 use Rattle.lookup.proofs.lookup_nearest.Statement.{statement}
 use Rattle.lookup.proofs.lookup_nearest.Tie as tie
 
-close-taken-requires : tie.Need-close-taken-requires
-close-taken-requires c κs = search needs
-
-tier-at-requires : tie.Need-tier-at-requires
-tier-at-requires c κs = search needs
-
 nearest-number-requires : tie.Need-nearest-number-requires
 nearest-number-requires c κs = close-bounds _ (sym (c .before .before .close-taken .ensures) ∙ c .before .if2 .taken)
-
-price-at-requires : tie.Need-price-at-requires
-price-at-requires c κs = search needs
-
-cast-result : tie.Need-cast-result
-cast-result c = search needs
 
 returns : tie.Need-returns
 returns c =
@@ -38,11 +26,11 @@ pub lookup-nearest-spec : {M : Type 1} → statement M
 lookup-nearest-spec =
     tie.close
     (tie.spec
-    close-taken-requires
-    tier-at-requires
+    (λ c κs. search needs)
+    (λ c κs. search needs)
     nearest-number-requires
-    price-at-requires
-    cast-result
+    (λ c κs. search needs)
+    (λ c. search needs)
     returns
     returns-2
     returns-3)

@@ -5,18 +5,6 @@ use borrow.Author.Tests.{lt-ltb, le-ltb}
 use Rattle.lookup.proofs.lookup_next_session.Statement.{statement}
 use Rattle.lookup.proofs.lookup_next_session.Tie as tie
 
-cast-if1 : tie.Need-cast-if1
-cast-if1 c = search needs
-
-cast-next-session : tie.Need-cast-next-session
-cast-next-session c = search needs
-
-next-session-requires : tie.Need-next-session-requires
-next-session-requires c κs = search needs
-
-cast-result : tie.Need-cast-result
-cast-result c = search needs
-
 returns : tie.Need-returns
 returns c = rw (lt-ltb _ _ (c .before .if1 .taken)) (c .next-session .ensures)
 
@@ -26,4 +14,4 @@ returns-2 c = rw (le-ltb _ _ (c .if1 .left))
 pub lookup-next-session-spec : {M : Type 1} → statement M
 lookup-next-session-spec =
     tie.close
-    (tie.spec cast-if1 cast-next-session next-session-requires cast-result returns returns-2)
+    (tie.spec (λ c. search needs) (λ c. search needs) (λ c κs. search needs) (λ c. search needs) returns returns-2)

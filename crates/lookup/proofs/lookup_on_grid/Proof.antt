@@ -5,12 +5,6 @@ use borrow.Author.Tests.{le-leb, lt-leb}
 use Rattle.lookup.proofs.lookup_on_grid.Statement.{statement}
 use Rattle.lookup.proofs.lookup_on_grid.Tie as tie
 
-tier-at-requires : tie.Need-tier-at-requires
-tier-at-requires c κs = search needs
-
-on-grid-requires : tie.Need-on-grid-requires
-on-grid-requires c κs = search needs
-
 returns : tie.Need-returns
 returns c = rw (le-leb _ _ (c .before .before .before .if1 .taken), ← c .before .before .tier-at .ensures, ← c .before .on-grid .ensures, c .if2 .taken)
 
@@ -22,4 +16,4 @@ returns-3 c = rw (lt-leb _ _ (c .if1 .left))
 
 pub lookup-on-grid-spec : {M : Type 1} → statement M
 lookup-on-grid-spec =
-    tie.close (tie.spec tier-at-requires on-grid-requires returns returns-2 returns-3)
+    tie.close (tie.spec (λ c κs. search needs) (λ c κs. search needs) returns returns-2 returns-3)

@@ -8,12 +8,6 @@ use Rattle.lookup.proofs.LookupLaws.{close-bounds}
 use Rattle.lookup.proofs.lookup_required.Statement.{statement}
 use Rattle.lookup.proofs.lookup_required.Tie as tie
 
-close-taken-requires : tie.Need-close-taken-requires
-close-taken-requires c κs = search needs
-
-tier-at-requires : tie.Need-tier-at-requires
-tier-at-requires c κs = search needs
-
 required-strikes-requires : tie.Need-required-strikes-requires
 required-strikes-requires c κs = close-bounds _ (sym (c .before .before .close-taken .ensures) ∙ c .before .if2 .taken)
 
@@ -35,8 +29,8 @@ pub lookup-required-spec : {M : Type 1} → statement M
 lookup-required-spec =
     tie.close
     (tie.spec
-    close-taken-requires
-    tier-at-requires
+    (λ c κs. search needs)
+    (λ c κs. search needs)
     required-strikes-requires
     returns
     returns-2

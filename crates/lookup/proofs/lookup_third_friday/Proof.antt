@@ -5,18 +5,6 @@ use borrow.Author.Tests.{lt-ltb, le-ltb}
 use Rattle.lookup.proofs.lookup_third_friday.Statement.{statement}
 use Rattle.lookup.proofs.lookup_third_friday.Tie as tie
 
-cast-if1 : tie.Need-cast-if1
-cast-if1 c = search needs
-
-cast-third-friday : tie.Need-cast-third-friday
-cast-third-friday c = search needs
-
-third-friday-requires : tie.Need-third-friday-requires
-third-friday-requires c κs = search needs
-
-cast-result : tie.Need-cast-result
-cast-result c = search needs
-
 returns : tie.Need-returns
 returns c = rw (lt-ltb _ _ (c .before .if1 .taken)) (c .third-friday .ensures)
 
@@ -26,4 +14,4 @@ returns-2 c = rw (le-ltb _ _ (c .if1 .left))
 pub lookup-third-friday-spec : {M : Type 1} → statement M
 lookup-third-friday-spec =
     tie.close
-    (tie.spec cast-if1 cast-third-friday third-friday-requires cast-result returns returns-2)
+    (tie.spec (λ c. search needs) (λ c. search needs) (λ c κs. search needs) (λ c. search needs) returns returns-2)

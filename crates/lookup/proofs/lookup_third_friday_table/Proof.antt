@@ -5,21 +5,6 @@ use borrow.Author.Tests.{lt-ltb, le-ltb}
 use Rattle.lookup.proofs.lookup_third_friday_table.Statement.{statement}
 use Rattle.lookup.proofs.lookup_third_friday_table.Tie as tie
 
-cast-if1 : tie.Need-cast-if1
-cast-if1 c = search needs
-
-third-fridays-requires : tie.Need-third-fridays-requires
-third-fridays-requires c κs = search needs
-
-mul-result : tie.Need-mul-result
-mul-result c = search needs
-
-array-read-result : tie.Need-array-read-result
-array-read-result c = search needs
-
-cast-result : tie.Need-cast-result
-cast-result c = search needs
-
 returns : tie.Need-returns
 returns c = rw (lt-ltb _ _ (c .before .if1 .taken)) (c .third-fridays .ensures .each _ (c .before .if1 .taken))
 
@@ -30,10 +15,10 @@ pub lookup-third-friday-table-spec : {M : Type 1} → statement M
 lookup-third-friday-table-spec =
     tie.close
     (tie.spec
-    cast-if1
-    third-fridays-requires
-    mul-result
-    array-read-result
-    cast-result
+    (λ c. search needs)
+    (λ c κs. search needs)
+    (λ c. search needs)
+    (λ c. search needs)
+    (λ c. search needs)
     returns
     returns-2)

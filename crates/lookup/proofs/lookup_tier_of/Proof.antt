@@ -5,21 +5,6 @@ use borrow.Author.Tests.{le-leb, lt-leb}
 use Rattle.lookup.proofs.lookup_tier_of.Statement.{statement}
 use Rattle.lookup.proofs.lookup_tier_of.Tie as tie
 
-cast-if1 : tie.Need-cast-if1
-cast-if1 c = search needs
-
-cast-tier-of : tie.Need-cast-tier-of
-cast-tier-of c = search needs
-
-cast-tier-of-2 : tie.Need-cast-tier-of-2
-cast-tier-of-2 c = search needs
-
-tier-of-requires : tie.Need-tier-of-requires
-tier-of-requires c κs = search needs
-
-tier-number-requires : tie.Need-tier-number-requires
-tier-number-requires c κs = search needs
-
 returns : tie.Need-returns
 returns c = rw (le-leb _ _ (c .before .before .before .if1 .taken), le-leb _ _ (c .before .before .if2 .taken), ← c .before .tier-of .ensures) (c .tier-number .ensures)
 
@@ -33,11 +18,11 @@ pub lookup-tier-of-spec : {M : Type 1} → statement M
 lookup-tier-of-spec =
     tie.close
     (tie.spec
-    cast-if1
-    cast-tier-of
-    cast-tier-of-2
-    tier-of-requires
-    tier-number-requires
+    (λ c. search needs)
+    (λ c. search needs)
+    (λ c. search needs)
+    (λ c κs. search needs)
+    (λ c κs. search needs)
     returns
     returns-2
     returns-3)

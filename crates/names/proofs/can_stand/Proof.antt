@@ -7,9 +7,6 @@ use Rattle.names.specs.Names.{canStand}
 use Rattle.names.proofs.can_stand.Statement.{statement}
 use Rattle.names.proofs.can_stand.Tie as tie
 
-array-read-result : tie.Need-array-read-result
-array-read-result c = search needs
-
 returns : tie.Need-returns
 unfolding canStand
 returns c = rw (lt-ltb _ _ (c .if1 .taken))
@@ -32,4 +29,4 @@ returns-5 c = rw (le-ltb _ _ (c .before .before .if1 .left), ne-eqb _ _ (c .befo
 
 pub can-stand-spec : {M : Type 1} → statement M
 can-stand-spec =
-    tie.close (tie.spec array-read-result returns returns-2 returns-3 returns-4 returns-5)
+    tie.close (tie.spec (λ c. search needs) returns returns-2 returns-3 returns-4 returns-5)

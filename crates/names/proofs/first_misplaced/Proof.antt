@@ -21,26 +21,11 @@ abbrev μ-loop : tie.MeasureT-loop
 loop-holds : tie.Need-loop-holds Inv-loop μ-loop
 loop-holds c = (omega arith, refl)
 
-cast-can-stand : tie.Need-cast-can-stand Inv-loop μ-loop
-cast-can-stand c = omega arith
-
-shared-slice-read-can-stand : tie.Need-shared-slice-read-can-stand Inv-loop μ-loop
-shared-slice-read-can-stand c = omega arith
-
-can-stand-requires : tie.Need-can-stand-requires Inv-loop μ-loop
-can-stand-requires c κs = search needs
-
 returns : tie.Need-returns Inv-loop μ-loop
 unfolding misplaced
 returns c =
     let l = c .before .before .before .before .loop in
     sym (l .inv .1 ∙ first-hit _ _ _ (c .before .before .before .loop-test .taken) (ap not (sym (c .before .can-stand .ensures)) ∙ c .if1 .taken))
-
-add-place : tie.Need-add-place Inv-loop μ-loop
-add-place c = omega arith
-
-loop-less : tie.Need-loop-less Inv-loop μ-loop
-loop-less c = omega arith
 
 loop-again : tie.Need-loop-again Inv-loop μ-loop
 unfolding misplaced
@@ -58,11 +43,11 @@ first-misplaced-spec =
     Inv-loop
     μ-loop
     loop-holds
-    cast-can-stand
-    shared-slice-read-can-stand
-    can-stand-requires
+    (λ c. omega arith)
+    (λ c. omega arith)
+    (λ c κs. search needs)
     returns
-    add-place
-    loop-less
+    (λ c. omega arith)
+    (λ c. omega arith)
     loop-again
     returns-2)

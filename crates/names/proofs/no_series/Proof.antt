@@ -10,9 +10,6 @@ use Rattle.names.specs.Names.{noSeries}
 use Rattle.names.proofs.no_series.Statement.{statement}
 use Rattle.names.proofs.no_series.Tie as tie
 
-cast-if1 : tie.Need-cast-if1
-cast-if1 c = search needs
-
 returns : tie.Need-returns
 unfolding noSeries
 returns c = rw (le-ltb (c .before .args .month) monthCount (omega arith))
@@ -23,9 +20,6 @@ returns-2 c =
     let a = c .before .before .args in
     rw (lt-ltb (a .month) monthCount (omega arith), lt-ltb 1 (a .kind) (omega arith))
 
-on-grid-requires : tie.Need-on-grid-requires
-on-grid-requires c κs = search needs
-
 returns-3 : tie.Need-returns-3
 unfolding noSeries
 returns-3 c =
@@ -33,4 +27,4 @@ returns-3 c =
     rw (lt-ltb (a .month) monthCount (omega arith), le-ltb 1 (a .kind) (omega arith)) (ap not (c .on-grid .ensures))
 
 pub no-series-spec : {M : Type 1} → statement M
-no-series-spec = tie.close (tie.spec cast-if1 returns returns-2 on-grid-requires returns-3)
+no-series-spec = tie.close (tie.spec (λ c. search needs) returns returns-2 (λ c κs. search needs) returns-3)

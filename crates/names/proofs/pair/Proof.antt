@@ -10,20 +10,8 @@ use Rattle.names.proofs.pair.Tie as tie
 sub-result : tie.Need-sub-result
 sub-result c = within-l _ _ _ (c .pre .0)
 
-cast-result : tie.Need-cast-result
-cast-result c = search needs
-
-mul-result : tie.Need-mul-result
-mul-result c = search needs
-
 sub-result-2 : tie.Need-sub-result-2
 sub-result-2 c = within-l _ _ _ (c .pre .1)
-
-cast-result-2 : tie.Need-cast-result-2
-cast-result-2 c = search needs
-
-add-result : tie.Need-add-result
-add-result c = search needs
 
 returns : tie.Need-returns
 unfolding valueFrom
@@ -32,4 +20,4 @@ returns c = (omega arith, omega (arith, within-r _ _ _ (c .pre .0), within-r _ _
 pub pair-spec : {M : Type 1} → statement M
 pair-spec =
     tie.close
-    (tie.spec sub-result cast-result mul-result sub-result-2 cast-result-2 add-result returns)
+    (tie.spec sub-result (λ c. search needs) (λ c. search needs) sub-result-2 (λ c. search needs) (λ c. search needs) returns)

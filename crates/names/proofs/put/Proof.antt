@@ -32,95 +32,23 @@ stored month kind price =
     let hundreds : price / 10 / 10 ≡ price / 100 = omega arith in
     rw (letter-is, thousands, hundreds)
 
-array-read-name : tie.Need-array-read-name
-array-read-name c = search needs
-
-slice-write-name : tie.Need-slice-write-name
-slice-write-name c = search needs
-
-array-read-name-2 : tie.Need-array-read-name-2
-array-read-name-2 c = search needs
-
-slice-write-name-2 : tie.Need-slice-write-name-2
-slice-write-name-2 c = search needs
-
-array-read-name-3 : tie.Need-array-read-name-3
-array-read-name-3 c = search needs
-
-slice-write-name-3 : tie.Need-slice-write-name-3
-slice-write-name-3 c = search needs
-
-array-read-name-4 : tie.Need-array-read-name-4
-array-read-name-4 c = search needs
-
-slice-write-name-4 : tie.Need-slice-write-name-4
-slice-write-name-4 c = search needs
-
-mul-name : tie.Need-mul-name
-mul-name c = search needs
-
-add-name : tie.Need-add-name
-add-name c = search needs
-
-cast-name : tie.Need-cast-name
-cast-name c = search needs
-
-add-name-2 : tie.Need-add-name-2
-add-name-2 c = search needs
-
 slice-write-name-5 : tie.Need-slice-write-name-5
 slice-write-name-5 c = simp length-set (omega arith)
-
-cast-name-2 : tie.Need-cast-name-2
-cast-name-2 c = search needs
-
-add-name-3 : tie.Need-add-name-3
-add-name-3 c = search needs
 
 slice-write-name-6 : tie.Need-slice-write-name-6
 slice-write-name-6 c = simp length-set (omega arith)
 
-cast-name-3 : tie.Need-cast-name-3
-cast-name-3 c = search needs
-
-add-name-4 : tie.Need-add-name-4
-add-name-4 c = search needs
-
 slice-write-name-7 : tie.Need-slice-write-name-7
 slice-write-name-7 c = simp length-set (omega arith)
-
-cast-name-4 : tie.Need-cast-name-4
-cast-name-4 c = search needs
-
-add-name-5 : tie.Need-add-name-5
-add-name-5 c = search needs
 
 slice-write-name-8 : tie.Need-slice-write-name-8
 slice-write-name-8 c = simp length-set (omega arith)
 
-cast-name-5 : tie.Need-cast-name-5
-cast-name-5 c = search needs
-
-add-name-6 : tie.Need-add-name-6
-add-name-6 c = search needs
-
 slice-write-name-9 : tie.Need-slice-write-name-9
 slice-write-name-9 c = simp length-set (omega arith)
 
-cast-name-6 : tie.Need-cast-name-6
-cast-name-6 c = search needs
-
-add-name-7 : tie.Need-add-name-7
-add-name-7 c = search needs
-
 slice-write-name-10 : tie.Need-slice-write-name-10
 slice-write-name-10 c = simp length-set (omega arith)
-
-cast-name-7 : tie.Need-cast-name-7
-cast-name-7 c = search needs
-
-add-name-8 : tie.Need-add-name-8
-add-name-8 c = search needs
 
 slice-write-name-11 : tie.Need-slice-write-name-11
 slice-write-name-11 c = simp length-set (omega arith)
@@ -139,36 +67,36 @@ pub put-spec : {M : Type 1} → statement M
 put-spec =
     tie.close
     (tie.spec
-    array-read-name
-    slice-write-name
-    array-read-name-2
-    slice-write-name-2
-    array-read-name-3
-    slice-write-name-3
-    array-read-name-4
-    slice-write-name-4
-    mul-name
-    add-name
-    cast-name
-    add-name-2
+    (λ c. search needs)
+    (λ c. search needs)
+    (λ c. search needs)
+    (λ c. search needs)
+    (λ c. search needs)
+    (λ c. search needs)
+    (λ c. search needs)
+    (λ c. search needs)
+    (λ c. search needs)
+    (λ c. search needs)
+    (λ c. search needs)
+    (λ c. search needs)
     slice-write-name-5
-    cast-name-2
-    add-name-3
+    (λ c. search needs)
+    (λ c. search needs)
     slice-write-name-6
-    cast-name-3
-    add-name-4
+    (λ c. search needs)
+    (λ c. search needs)
     slice-write-name-7
-    cast-name-4
-    add-name-5
+    (λ c. search needs)
+    (λ c. search needs)
     slice-write-name-8
-    cast-name-5
-    add-name-6
+    (λ c. search needs)
+    (λ c. search needs)
     slice-write-name-9
-    cast-name-6
-    add-name-7
+    (λ c. search needs)
+    (λ c. search needs)
     slice-write-name-10
-    cast-name-7
-    add-name-8
+    (λ c. search needs)
+    (λ c. search needs)
     slice-write-name-11
     same-length
     returns)

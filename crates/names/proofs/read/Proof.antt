@@ -24,21 +24,9 @@ placed c = rw (← c .before .before .before .before .before .before .first-misp
 tested : (c : tie.After-no-series) → c .no-series .result ≡ noSeries (monthRead (name c)) (kindRead (name c)) (priceRead (name c))
 tested c = rw (c .before .before .before .before .told .ensures) at (c .no-series .ensures)
 
-cast-if1 : tie.Need-cast-if1
-cast-if1 c = search needs
-
-refused-requires : tie.Need-refused-requires
-refused-requires c κs = search needs
-
 returns : tie.Need-returns
 unfolding readOf
 returns c = c .refused .ensures ∙ rw (read-27 _ (c .before .if1 .taken))
-
-first-misplaced-requires : tie.Need-first-misplaced-requires
-first-misplaced-requires c κs = search needs
-
-refused-requires-2 : tie.Need-refused-requires-2
-refused-requires-2 c κs = search needs
 
 returns-2 : tie.Need-returns-2
 unfolding readOf
@@ -47,24 +35,6 @@ returns-2 c =
     let name = f .before .before .before .args .name .now in
     let at : firstIn (misplaced name) 0 nameLength < nameLength = rw (← f .first-misplaced .ensures) (c .before .if2 .taken) in
     c .refused2 .ensures ∙ rw (f .first-misplaced .ensures, read-29 name (f .before .if1 .left) at)
-
-told-requires : tie.Need-told-requires
-told-requires c κs = search needs
-
-cast-no-series : tie.Need-cast-no-series
-cast-no-series c = search needs
-
-cast-no-series-2 : tie.Need-cast-no-series-2
-cast-no-series-2 c = search needs
-
-cast-no-series-3 : tie.Need-cast-no-series-3
-cast-no-series-3 c = search needs
-
-no-series-requires : tie.Need-no-series-requires
-no-series-requires c κs = search needs
-
-refused-requires-3 : tie.Need-refused-requires-3
-refused-requires-3 c κs = search needs
 
 returns-3 : tie.Need-returns-3
 unfolding readOf
@@ -82,17 +52,17 @@ pub read-spec : {M : Type 1} → statement M
 read-spec =
     tie.close
     (tie.spec
-    cast-if1
-    refused-requires
+    (λ c. search needs)
+    (λ c κs. search needs)
     returns
-    first-misplaced-requires
-    refused-requires-2
+    (λ c κs. search needs)
+    (λ c κs. search needs)
     returns-2
-    told-requires
-    cast-no-series
-    cast-no-series-2
-    cast-no-series-3
-    no-series-requires
-    refused-requires-3
+    (λ c κs. search needs)
+    (λ c. search needs)
+    (λ c. search needs)
+    (λ c. search needs)
+    (λ c κs. search needs)
+    (λ c κs. search needs)
     returns-3
     returns-4)

@@ -19,59 +19,26 @@ digit s = is-digit (s .args .name .now) (s .pre .1)
 letter : (s : tie.Start) → within 65 88 (getD (s .args .name .now) 4 0) ≡ true
 letter s = is-letter (s .args .name .now) (s .pre .1)
 
-shared-slice-read-letter : tie.Need-shared-slice-read-letter
-shared-slice-read-letter c = search needs
-
 sub-letter : tie.Need-sub-letter
 sub-letter c = within-l _ _ _ (letter (c .before .before))
 
 cast-letter : tie.Need-cast-letter
 cast-letter c = omega (arith, within-r _ _ _ (letter (c .before .before)))
 
-shared-slice-read-pair : tie.Need-shared-slice-read-pair
-shared-slice-read-pair c = search needs
-
-shared-slice-read-pair-2 : tie.Need-shared-slice-read-pair-2
-shared-slice-read-pair-2 c = search needs
-
 pair-requires : tie.Need-pair-requires
 pair-requires c κs =
     let s = c .before .before .before .before in
     (digit s 5 (omega arith) (omega arith), digit s 6 (omega arith) (omega arith))
-
-mul-t9 : tie.Need-mul-t9
-mul-t9 c = search needs
-
-add-t11 : tie.Need-add-t11
-add-t11 c = search needs
-
-shared-slice-read-pair-3 : tie.Need-shared-slice-read-pair-3
-shared-slice-read-pair-3 c = search needs
-
-shared-slice-read-pair-4 : tie.Need-shared-slice-read-pair-4
-shared-slice-read-pair-4 c = search needs
 
 pair-requires-2 : tie.Need-pair-requires-2
 pair-requires-2 c κs =
     let s = c .before .before .before .before .before .before .before in
     (digit s 7 (omega arith) (omega arith), digit s 8 (omega arith) (omega arith))
 
-mul-t18 : tie.Need-mul-t18
-mul-t18 c = search needs
-
-shared-slice-read-pair-5 : tie.Need-shared-slice-read-pair-5
-shared-slice-read-pair-5 c = search needs
-
-shared-slice-read-pair-6 : tie.Need-shared-slice-read-pair-6
-shared-slice-read-pair-6 c = search needs
-
 pair-requires-3 : tie.Need-pair-requires-3
 pair-requires-3 c κs =
     let s = c .before .before .before .before .before .before .before .before .before .before in
     (digit s 9 (omega arith) (omega arith), digit s 10 (omega arith) (omega arith))
-
-add-t24 : tie.Need-add-t24
-add-t24 c = search needs
 
 returns : tie.Need-returns
 unfolding kindRead
@@ -90,20 +57,20 @@ pub told-spec : {M : Type 1} → statement M
 told-spec =
     tie.close
     (tie.spec
-    shared-slice-read-letter
+    (λ c. search needs)
     sub-letter
     cast-letter
-    shared-slice-read-pair
-    shared-slice-read-pair-2
+    (λ c. search needs)
+    (λ c. search needs)
     pair-requires
-    mul-t9
-    add-t11
-    shared-slice-read-pair-3
-    shared-slice-read-pair-4
+    (λ c. search needs)
+    (λ c. search needs)
+    (λ c. search needs)
+    (λ c. search needs)
     pair-requires-2
-    mul-t18
-    shared-slice-read-pair-5
-    shared-slice-read-pair-6
+    (λ c. search needs)
+    (λ c. search needs)
+    (λ c. search needs)
     pair-requires-3
-    add-t24
+    (λ c. search needs)
     returns)

@@ -7,17 +7,11 @@ use Rattle.names.proofs.RefusalLaws.{kind-below, write-27, write-28, wr
 use Rattle.names.proofs.write.Statement.{statement}
 use Rattle.names.proofs.write.Tie as tie
 
-cast-if1 : tie.Need-cast-if1
-cast-if1 c = search needs
-
 returns : tie.Need-returns
 unfolding written
 returns c =
     let e = write-27 _ _ _ _ (c .if1 .taken) in
     (sym e, rw e)
-
-no-series-requires : tie.Need-no-series-requires
-no-series-requires c κs = search needs
 
 returns-2 : tie.Need-returns-2
 unfolding written
@@ -30,9 +24,6 @@ put-requires : tie.Need-put-requires
 put-requires c κs =
     (search needs, kind-below _ _ _ (sym (c .before .before .no-series .ensures) ∙ c .before .if2 .left))
 
-same-length : tie.Need-same-length
-same-length c = search needs
-
 returns-3 : tie.Need-returns-3
 unfolding written
 returns-3 c =
@@ -44,4 +35,4 @@ returns-3 c =
 pub write-spec : {M : Type 1} → statement M
 write-spec =
     tie.close
-    (tie.spec cast-if1 returns no-series-requires returns-2 put-requires same-length returns-3)
+    (tie.spec (λ c. search needs) returns (λ c κs. search needs) returns-2 put-requires (λ c. search needs) returns-3)

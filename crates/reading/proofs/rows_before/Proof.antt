@@ -10,41 +10,17 @@ Inv-loop rows month end i₀ i = i ≤ end
 abbrev μ-loop : tie.MeasureT-loop
 μ-loop rows month end i₀ i = end - i
 
-count-requires : tie.Need-count-requires Inv-loop μ-loop
-count-requires c κs = search needs
-
-loop-holds : tie.Need-loop-holds Inv-loop μ-loop
-loop-holds c = search needs
-
-row-at-requires : tie.Need-row-at-requires Inv-loop μ-loop
-row-at-requires c κs = search needs
-
-returns : tie.Need-returns Inv-loop μ-loop
-returns c = search needs
-
-add-i : tie.Need-add-i Inv-loop μ-loop
-add-i c = search needs
-
-loop-less : tie.Need-loop-less Inv-loop μ-loop
-loop-less c = search needs
-
-loop-again : tie.Need-loop-again Inv-loop μ-loop
-loop-again c = search needs
-
-returns-2 : tie.Need-returns-2 Inv-loop μ-loop
-returns-2 c = search needs
-
 pub rows-before-spec : {M : Type 1} → statement M
 rows-before-spec =
     tie.close
     (tie.spec
     Inv-loop
     μ-loop
-    count-requires
-    loop-holds
-    row-at-requires
-    returns
-    add-i
-    loop-less
-    loop-again
-    returns-2)
+    (λ c κs. search needs)
+    (λ c. search needs)
+    (λ c κs. search needs)
+    (λ c. search needs)
+    (λ c. search needs)
+    (λ c. search needs)
+    (λ c. search needs)
+    (λ c. search needs))

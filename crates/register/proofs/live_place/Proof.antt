@@ -17,20 +17,8 @@ Inv-loop first month months i₀ i = (i ≤ 6) × (placeOf month months ≡ i + 
 abbrev μ-loop : tie.MeasureT-loop
 μ-loop first month months i₀ i = 6 - i
 
-live-months-requires : tie.Need-live-months-requires Inv-loop μ-loop
-live-months-requires c κs = search needs
-
 loop-holds : tie.Need-loop-holds Inv-loop μ-loop
 loop-holds c = (omega arith, omega arith)
-
-mul-if1 : tie.Need-mul-if1 Inv-loop μ-loop
-mul-if1 c = search needs
-
-array-read-if1 : tie.Need-array-read-if1 Inv-loop μ-loop
-array-read-if1 c = search needs
-
-cast-if1 : tie.Need-cast-if1 Inv-loop μ-loop
-cast-if1 c = search needs
 
 returns : tie.Need-returns Inv-loop μ-loop
 returns c =
@@ -39,12 +27,6 @@ returns c =
     let n = six-months _ _ (c .before .before .before .live-months .ensures) in
     let e = place-here (c .before .before .before .before .args .month) (v .result) (l .i) (omega arith) (c .if1 .taken) in
     rw (← v .ensures) (omega (arith, l .inv .1, e))
-
-add-i : tie.Need-add-i Inv-loop μ-loop
-add-i c = search needs
-
-loop-less : tie.Need-loop-less Inv-loop μ-loop
-loop-less c = search needs
 
 loop-again : tie.Need-loop-again Inv-loop μ-loop
 loop-again c =
@@ -69,13 +51,13 @@ live-place-spec =
     (tie.spec
     Inv-loop
     μ-loop
-    live-months-requires
+    (λ c κs. search needs)
     loop-holds
-    mul-if1
-    array-read-if1
-    cast-if1
+    (λ c. search needs)
+    (λ c. search needs)
+    (λ c. search needs)
     returns
-    add-i
-    loop-less
+    (λ c. search needs)
+    (λ c. search needs)
     loop-again
     returns-2)

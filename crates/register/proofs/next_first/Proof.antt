@@ -21,15 +21,9 @@ on-next c =
     let a = c .before .before .before .before .args in
     rw (c .next-session .ensures, c .before .word .ensures) (first-is (a .calendar .now) (next (rules (a .calendar .now)) (momentOf (a .register .now))))
 
-word-requires : tie.Need-word-requires
-word-requires c κs = search needs
-
 next-session-requires : tie.Need-next-session-requires
 unfolding momentOf
 next-session-requires c κs = rw (c .word .ensures) (c .before .before .before .pre .2)
-
-first-live-requires : tie.Need-first-live-requires
-first-live-requires c κs = search needs
 
 returns : tie.Need-returns
 returns c = c .first-live .ensures ∙ on-next (c .before .before)
@@ -38,4 +32,4 @@ returns-2 : tie.Need-returns-2
 returns-2 c = sym (live-past _ (expiry-below _) _ (c .if1 .left)) ∙ on-next (c .before)
 
 pub next-first-spec : {M : Type 1} → statement M
-next-first-spec = tie.close (tie.spec word-requires next-session-requires first-live-requires returns returns-2)
+next-first-spec = tie.close (tie.spec (λ c κs. search needs) next-session-requires (λ c κs. search needs) returns returns-2)

@@ -14,9 +14,6 @@ passes : (c : tie.Else1) → Passes (c .before .before .before .before .before .
 unfolding checkOf
 passes c = sym (ap (λ (x : Checked). x .number) (c .before .before .check .ensures)) ∙ c .if1 .left
 
-check-requires : tie.Need-check-requires
-check-requires c κs = search needs
-
 returns : tie.Need-returns
 unfolding checkOf
 returns c =
@@ -26,17 +23,11 @@ returns c =
 returns-2 : tie.Need-returns-2
 returns-2 c = opens-with _ _ 14 (opens-length _ _ (passes (c .before)) (c .if2 .taken)) refl
 
-shared-slice-read-if3 : tie.Need-shared-slice-read-if3
-shared-slice-read-if3 c = search needs
-
 returns-3 : tie.Need-returns-3
 unfolding cause
 returns-3 c =
     let e = opens-status _ _ (passes (c .before .before .before)) (c .before .before .if2 .left) in
     opens-with _ (c .before .before .before .before .before .before .before .before .args .register .now) 0 (e ∙ rw (ne-eqb _ 0 (c .if3 .taken))) refl
-
-is-zero-requires : tie.Need-is-zero-requires
-is-zero-requires c κs = search needs
 
 returns-4 : tie.Need-returns-4
 unfolding cause
@@ -54,11 +45,11 @@ pub opening-spec : {M : Type 1} → statement M
 opening-spec =
     tie.close
     (tie.spec
-    check-requires
+    (λ c κs. search needs)
     returns
     returns-2
-    shared-slice-read-if3
+    (λ c. search needs)
     returns-3
-    is-zero-requires
+    (λ c κs. search needs)
     returns-4
     returns-5)

@@ -94,9 +94,6 @@ returns : tie.Need-returns
 unfolding causesAt cause firstOf
 returns c = rw (lt-ltb lastFirstMonth (c .before .args .next) (c .if1 .taken))
 
-live-place-requires : tie.Need-live-place-requires
-live-place-requires c κs = search needs
-
 returns-2 : tie.Need-returns-2
 unfolding causesAt cause firstOf
 returns-2 c =
@@ -115,12 +112,6 @@ returns-3 c =
       is-live (c .before),
       lt-ltb (a .month) (a .next) (c .if3 .taken),
     )
-
-tier-of-requires : tie.Need-tier-of-requires
-tier-of-requires c κs = search needs
-
-on-grid-requires : tie.Need-on-grid-requires
-on-grid-requires c κs = search needs
 
 returns-4 : tie.Need-returns-4
 unfolding causesAt cause firstOf
@@ -150,17 +141,11 @@ mul-span c = omega (arith, in-six (c .before .before .before .before .before))
 array-copy-out-span : tie.Need-array-copy-out-span
 array-copy-out-span c = in-six (c .before .before .before .before .before)
 
-array-read-if6 : tie.Need-array-read-if6
-array-read-if6 c = search needs
-
 returns-6 : tie.Need-returns-6
 unfolding cause firstOf within
 returns-6 c =
     let p = c .before .before .before .before .before .before .before .before .before .before .args .price in
     sym (by-span (c .before .before .before) ∙ rw (span-at (c .before .before .before .before .before .before .before), lt-leb _ p (c .if6 .taken), c .before .before .if5 .left))
-
-array-read-if7 : tie.Need-array-read-if7
-array-read-if7 c = search needs
 
 returns-7 : tie.Need-returns-7
 unfolding cause firstOf within
@@ -181,19 +166,19 @@ refusal-spec =
     tie.close
     (tie.spec
     returns
-    live-place-requires
+    (λ c κs. search needs)
     returns-2
     cast-live
     returns-3
-    tier-of-requires
-    on-grid-requires
+    (λ c κs. search needs)
+    (λ c κs. search needs)
     returns-4
     returns-5
     cast-strike
     mul-span
     array-copy-out-span
-    array-read-if6
+    (λ c. search needs)
     returns-6
-    array-read-if7
+    (λ c. search needs)
     returns-7
     returns-8)

@@ -61,14 +61,8 @@ spans c w =
     let x = c .before .before .ladders .result in
     spans-are cal bs l bytes x (scan c) ∙ all-stand cal bs (stands-if cal bs l bytes x (scan c) w)
 
-keeps-layout-requires : tie.Need-keeps-layout-requires
-keeps-layout-requires c κs = search needs
-
 returns : tie.Need-returns
 returns c = none-stand _ _ (λ r. clash _ (c .before .keeps-layout .ensures .if-holds (run-keeps _ _ (c .before .before .before .before .pre .1) r)) (not-true _ (c .if1 .taken)))
-
-word-requires : tie.Need-word-requires
-word-requires c κs = search needs
 
 returns-2 : tie.Need-returns-2
 unfolding momentOf
@@ -79,36 +73,18 @@ returns-2 c =
     let d = c .before .word .ensures in
     none-stand cal bs (λ r. omega (arith, c .if2 .taken, run-day cal bs l r))
 
-has-session-requires : tie.Need-has-session-requires
-has-session-requires c κs = search needs
-
 returns-3 : tie.Need-returns-3
 returns-3 c =
     let e = rw (c .before .before .before .word .ensures) at (c .before .has-session .ensures) in
     none-stand _ _ (λ r. clash _ (e ∙ run-session _ _ (c .before .before .before .before .before .before .before .before .pre .1) r) (not-true _ (c .if3 .taken)))
 
-first-live-requires : tie.Need-first-live-requires
-first-live-requires c κs = search needs
-
 returns-4 : tie.Need-returns-4
 returns-4 c = none-stand _ _ (λ r. omega (arith, c .if4 .taken, first-is (c .before), run-first _ _ (c .before .before .before .before .before .before .before .before .before .before .pre .1) r))
-
-word-requires-2 : tie.Need-word-requires-2
-word-requires-2 c κs = search needs
-
-cast-rows : tie.Need-cast-rows
-cast-rows c = search needs
 
 ladders-requires : tie.Need-ladders-requires
 ladders-requires c κs =
     let k = keeps (c .before .before .before .before .before .before .before) in
     (omega (arith, c .before .before .before .before .before .before .before .before .before .before .before .pre .1, c .word2 .ensures, k .count), c .before .if4 .left)
-
-array-copy-out-span : tie.Need-array-copy-out-span
-array-copy-out-span c = search needs
-
-array-read-if5 : tie.Need-array-read-if5
-array-read-if5 c = search needs
 
 returns-5 : tie.Need-returns-5
 returns-5 c =
@@ -119,9 +95,6 @@ returns-5 c =
     none-stand cal bs
     (λ r. first-low (firstAt cal (momentOf bs)) (bodyOf bs) (run-held cal bs l r)
     (sym (ap (λ (x : List (List ℕ)). getD (getD x 0 []) 0 0) (e ∙ run-spans cal bs l r)) ∙ c .if5 .taken))
-
-shared-slice-read-if6 : tie.Need-shared-slice-read-if6
-shared-slice-read-if6 c = search needs
 
 returns-6 : tie.Need-returns-6
 unfolding waitingOk bodyOf
@@ -151,21 +124,21 @@ pub standing-spec : {M : Type 1} → statement M
 standing-spec =
     tie.close
     (tie.spec
-    keeps-layout-requires
+    (λ c κs. search needs)
     returns
-    word-requires
+    (λ c κs. search needs)
     returns-2
-    has-session-requires
+    (λ c κs. search needs)
     returns-3
-    first-live-requires
+    (λ c κs. search needs)
     returns-4
-    word-requires-2
-    cast-rows
+    (λ c κs. search needs)
+    (λ c. search needs)
     ladders-requires
-    array-copy-out-span
-    array-read-if5
+    (λ c. search needs)
+    (λ c. search needs)
     returns-5
-    shared-slice-read-if6
+    (λ c. search needs)
     returns-6
     waiting-stands-requires
     returns-7

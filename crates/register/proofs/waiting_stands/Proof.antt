@@ -42,41 +42,11 @@ refused c =
 next-first-requires : tie.Need-next-first-requires Inv-loop μ-loop
 next-first-requires c κs = let p = c .before .before .pre in (p .0, p .1, p .3)
 
-shared-slice-read-places : tie.Need-shared-slice-read-places Inv-loop μ-loop
-shared-slice-read-places c = search needs
-
-cast-places : tie.Need-cast-places Inv-loop μ-loop
-cast-places c = search needs
-
 loop-holds : tie.Need-loop-holds Inv-loop μ-loop
 loop-holds c =
     let a = c .before .before .before .before .args in
     let bs = a .register .now in
     (omega arith, waiting-start (rules (a .calendar .now)) (bodyOf bs) bs 8 (getD bs 1 0))
-
-mul-at : tie.Need-mul-at Inv-loop μ-loop
-mul-at c = search needs
-
-add-at : tie.Need-add-at Inv-loop μ-loop
-add-at c = search needs
-
-word-requires : tie.Need-word-requires Inv-loop μ-loop
-word-requires c κs = search needs
-
-cast-month : tie.Need-cast-month Inv-loop μ-loop
-cast-month c = search needs
-
-add-word : tie.Need-add-word Inv-loop μ-loop
-add-word c = search needs
-
-word-requires-2 : tie.Need-word-requires-2 Inv-loop μ-loop
-word-requires-2 c κs = search needs
-
-cast-price : tie.Need-cast-price Inv-loop μ-loop
-cast-price c = search needs
-
-waits-beside-requires : tie.Need-waits-beside-requires Inv-loop μ-loop
-waits-beside-requires c κs = search needs
 
 refusal-requires : tie.Need-refusal-requires Inv-loop μ-loop
 refusal-requires c κs =
@@ -91,12 +61,6 @@ returns c =
     let bs = a .register .now in
     let l = c .before .before .before .before .before .before .loop in
     sym (l .inv .1 ∙ waiting-stop (rules (a .calendar .now)) (bodyOf bs) bs 8 (getD bs 1 0) (l .i) (c .before .before .before .before .before .loop-test .taken) (λ q. c .if1 .taken (refused (c .before) ∙ q)))
-
-add-i : tie.Need-add-i Inv-loop μ-loop
-add-i c = search needs
-
-loop-less : tie.Need-loop-less Inv-loop μ-loop
-loop-less c = search needs
 
 loop-again : tie.Need-loop-again Inv-loop μ-loop
 loop-again c =
@@ -120,20 +84,20 @@ waiting-stands-spec =
     Inv-loop
     μ-loop
     next-first-requires
-    shared-slice-read-places
-    cast-places
+    (λ c. search needs)
+    (λ c. search needs)
     loop-holds
-    mul-at
-    add-at
-    word-requires
-    cast-month
-    add-word
-    word-requires-2
-    cast-price
-    waits-beside-requires
+    (λ c. search needs)
+    (λ c. search needs)
+    (λ c κs. search needs)
+    (λ c. search needs)
+    (λ c. search needs)
+    (λ c κs. search needs)
+    (λ c. search needs)
+    (λ c κs. search needs)
     refusal-requires
     returns
-    add-i
-    loop-less
+    (λ c. search needs)
+    (λ c. search needs)
     loop-again
     returns-2)

@@ -25,27 +25,6 @@ loop-holds c =
     let a = c .before .args in
     (omega arith, start-of (λ n p. elem (a .price) (waitingOf (a .month) (placesAt (a .register .now) p n))) 4 (a .places) (a .at))
 
-mul-place : tie.Need-mul-place Inv-loop μ-loop
-mul-place c = search needs
-
-add-place : tie.Need-add-place Inv-loop μ-loop
-add-place c = search needs
-
-word-requires : tie.Need-word-requires Inv-loop μ-loop
-word-requires c κs = search needs
-
-cast-if1 : tie.Need-cast-if1 Inv-loop μ-loop
-cast-if1 c = search needs
-
-add-word : tie.Need-add-word Inv-loop μ-loop
-add-word c = search needs
-
-word-requires-2 : tie.Need-word-requires-2 Inv-loop μ-loop
-word-requires-2 c κs = search needs
-
-cast-if2 : tie.Need-cast-if2 Inv-loop μ-loop
-cast-if2 c = search needs
-
 returns : tie.Need-returns Inv-loop μ-loop
 returns c =
     let a = c .before .before .before .before .before .before .before .args in
@@ -53,12 +32,6 @@ returns c =
     sym (l .inv .1
     ∙ waits-here (a .register .now) (a .at + 4 * l .i) (a .places - l .i) (a .month) (a .price) (omega arith)
     (c .before .before .if1 .taken ∙ c .before .before .before .word .ensures) (c .if2 .taken ∙ c .before .word2 .ensures))
-
-add-i : tie.Need-add-i Inv-loop μ-loop
-add-i c = search needs
-
-loop-less : tie.Need-loop-less Inv-loop μ-loop
-loop-less c = search needs
 
 loop-again : tie.Need-loop-again Inv-loop μ-loop
 loop-again c =
@@ -81,15 +54,15 @@ waits-spec =
     Inv-loop
     μ-loop
     loop-holds
-    mul-place
-    add-place
-    word-requires
-    cast-if1
-    add-word
-    word-requires-2
-    cast-if2
+    (λ c. search needs)
+    (λ c. search needs)
+    (λ c κs. search needs)
+    (λ c. search needs)
+    (λ c. search needs)
+    (λ c κs. search needs)
+    (λ c. search needs)
     returns
-    add-i
-    loop-less
+    (λ c. search needs)
+    (λ c. search needs)
     loop-again
     returns-2)

@@ -19,29 +19,8 @@ beside : (c : tie.Start) →
     elem (a .price) (waitingOf (a .month) (front ++ back)) ≡ (elem (a .price) (waitingOf (a .month) front) || elem (a .price) (waitingOf (a .month) back))
 beside c = waits-append _ _ _ _
 
-waits-requires : tie.Need-waits-requires
-waits-requires c κs = search needs
-
 returns : tie.Need-returns
 returns c = sym (beside (c .before .before .before) ∙ rw (sym (c .before .waits .ensures) ∙ c .if1 .taken))
-
-mul-waits : tie.Need-mul-waits
-mul-waits c = search needs
-
-add-waits : tie.Need-add-waits
-add-waits c = search needs
-
-add-waits-2 : tie.Need-add-waits-2
-add-waits-2 c = search needs
-
-sub-waits : tie.Need-sub-waits
-sub-waits c = search needs
-
-sub-waits-2 : tie.Need-sub-waits-2
-sub-waits-2 c = search needs
-
-waits-requires-2 : tie.Need-waits-requires-2
-waits-requires-2 c κs = search needs
 
 returns-2 : tie.Need-returns-2
 returns-2 c = sym (beside (c .before .before .before .before) ∙ rw (sym (c .before .before .waits .ensures) ∙ c .before .if1 .left, c .waits2 .ensures))
@@ -50,12 +29,12 @@ pub waits-beside-spec : {M : Type 1} → statement M
 waits-beside-spec =
     tie.close
     (tie.spec
-    waits-requires
+    (λ c κs. search needs)
     returns
-    mul-waits
-    add-waits
-    add-waits-2
-    sub-waits
-    sub-waits-2
-    waits-requires-2
+    (λ c. search needs)
+    (λ c. search needs)
+    (λ c. search needs)
+    (λ c. search needs)
+    (λ c. search needs)
+    (λ c κs. search needs)
     returns-2)

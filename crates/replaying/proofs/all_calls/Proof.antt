@@ -20,52 +20,16 @@ abbrev μ-loop : tie.MeasureT-loop
 loop-holds : tie.Need-loop-holds Inv-loop μ-loop
 loop-holds c = (omega arith, omega arith, refl)
 
-shared-slice-read-wide : tie.Need-shared-slice-read-wide Inv-loop μ-loop
-shared-slice-read-wide c = search needs
-
-wide-requires : tie.Need-wide-requires Inv-loop μ-loop
-wide-requires c κs = search needs
-
-sub-if1 : tie.Need-sub-if1 Inv-loop μ-loop
-sub-if1 c = search needs
-
 returns : tie.Need-returns Inv-loop μ-loop
 returns c =
     let l = c .before .before .before .before .loop in
     sym (l .inv .2 ∙ fit-short _ _ _ (l .i) (l .at) _ (omega arith) (omega arith) (c .before .wide .ensures) (c .if1 .taken))
-
-add-end : tie.Need-add-end Inv-loop μ-loop
-add-end c = search needs
-
-shared-slice-read-is-call : tie.Need-shared-slice-read-is-call Inv-loop μ-loop
-shared-slice-read-is-call c = search needs
-
-mul-is-call : tie.Need-mul-is-call Inv-loop μ-loop
-mul-is-call c = search needs
-
-sub-is-call : tie.Need-sub-is-call Inv-loop μ-loop
-sub-is-call c = search needs
-
-part-is-call-start : tie.Need-part-is-call-start Inv-loop μ-loop
-part-is-call-start c = search needs
-
-part-is-call-end : tie.Need-part-is-call-end Inv-loop μ-loop
-part-is-call-end c = search needs
-
-is-call-requires : tie.Need-is-call-requires Inv-loop μ-loop
-is-call-requires c κs = search needs
 
 returns-2 : tie.Need-returns-2 Inv-loop μ-loop
 returns-2 c =
     let w = c .before .before .before .before .before in
     let l = w .before .before .before .loop in
     sym (l .inv .2 ∙ fit-other _ _ _ (l .i) (l .at) _ (omega arith) (omega arith) (w .wide .ensures) (sym (c .before .is-call .ensures) ∙ not-true _ (c .if2 .taken)))
-
-add-i : tie.Need-add-i Inv-loop μ-loop
-add-i c = search needs
-
-loop-less : tie.Need-loop-less Inv-loop μ-loop
-loop-less c = search needs
 
 loop-again : tie.Need-loop-again Inv-loop μ-loop
 loop-again c =
@@ -84,19 +48,19 @@ all-calls-spec =
     Inv-loop
     μ-loop
     loop-holds
-    shared-slice-read-wide
-    wide-requires
-    sub-if1
+    (λ c. search needs)
+    (λ c κs. search needs)
+    (λ c. search needs)
     returns
-    add-end
-    shared-slice-read-is-call
-    mul-is-call
-    sub-is-call
-    part-is-call-start
-    part-is-call-end
-    is-call-requires
+    (λ c. search needs)
+    (λ c. search needs)
+    (λ c. search needs)
+    (λ c. search needs)
+    (λ c. search needs)
+    (λ c. search needs)
+    (λ c κs. search needs)
     returns-2
-    add-i
-    loop-less
+    (λ c. search needs)
+    (λ c. search needs)
     loop-again
     returns-3)

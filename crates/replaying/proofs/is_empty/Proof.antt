@@ -10,12 +10,9 @@ returns : tie.Need-returns
 unfolding isEmpty
 returns c = rw (ne-eqb _ _ (c .if1 .taken))
 
-is-zero-requires : tie.Need-is-zero-requires
-is-zero-requires c κs = search needs
-
 returns-2 : tie.Need-returns-2
 unfolding isEmpty
 returns-2 c = rw (eq-eqb _ _ (c .before .if1 .left)) (c .is-zero .ensures)
 
 pub is-empty-spec : {M : Type 1} → statement M
-is-empty-spec = tie.close (tie.spec returns is-zero-requires returns-2)
+is-empty-spec = tie.close (tie.spec returns (λ c κs. search needs) returns-2)

@@ -7,23 +7,8 @@ use Rattle.replaying.proofs.Outcomes.{left-not-empty, left-malformed, l
 use Rattle.replaying.proofs.replay.Statement.{statement}
 use Rattle.replaying.proofs.replay.Tie as tie
 
-is-empty-requires : tie.Need-is-empty-requires
-is-empty-requires c κs = search needs
-
-same-length : tie.Need-same-length
-same-length c = search needs
-
 returns : tie.Need-returns
 returns c = left-not-empty _ _ _ _ _ _ (sym (c .before .is-empty .ensures) ∙ not-true _ (c .if1 .taken))
-
-well-kept-requires : tie.Need-well-kept-requires
-well-kept-requires c κs = search needs
-
-same-length-2 : tie.Need-same-length-2
-same-length-2 c = search needs
-
-same-length-3 : tie.Need-same-length-3
-same-length-3 c = search needs
 
 returns-2 : tie.Need-returns-2
 returns-2 c =
@@ -33,12 +18,6 @@ returns-2 c =
 
 run-requires : tie.Need-run-requires
 run-requires c κs = sym (c .before .before .before .well-kept .ensures) ∙ not-false _ (c .before .before .if2 .left)
-
-same-length-4 : tie.Need-same-length-4
-same-length-4 c = search needs
-
-same-length-5 : tie.Need-same-length-5
-same-length-5 c = search needs
 
 returns-3 : tie.Need-returns-3
 returns-3 c =
@@ -55,14 +34,14 @@ pub replay-spec : {M : Type 1} → statement M
 replay-spec =
     tie.close
     (tie.spec
-    is-empty-requires
-    same-length
+    (λ c κs. search needs)
+    (λ c. search needs)
     returns
-    well-kept-requires
-    same-length-2
-    same-length-3
+    (λ c κs. search needs)
+    (λ c. search needs)
+    (λ c. search needs)
     returns-2
     run-requires
-    same-length-4
-    same-length-5
+    (λ c. search needs)
+    (λ c. search needs)
     returns-3)

@@ -45,19 +45,10 @@ loop-holds c =
       behind = behind-none _ _ _ _ _ _ (k .calls);
     }
 
-shared-slice-read-wide : tie.Need-shared-slice-read-wide Inv-loop μ-loop
-shared-slice-read-wide c = search needs
-
-wide-requires : tie.Need-wide-requires Inv-loop μ-loop
-wide-requires c κs = search needs
-
 add-end : tie.Need-add-end Inv-loop μ-loop
 add-end c =
     let r = room (c .before .before .before .loop .inv) (c .before .before .loop-test .taken) (c .wide .ensures) in
     search needs
-
-shared-slice-read-call-by-kind : tie.Need-shared-slice-read-call-by-kind Inv-loop μ-loop
-shared-slice-read-call-by-kind c = search needs
 
 mul-call-by-kind : tie.Need-mul-call-by-kind Inv-loop μ-loop
 mul-call-by-kind c =
@@ -79,21 +70,6 @@ part-call-by-kind-end c =
     let r = room (c .before .before .before .before .before .loop .inv) (c .before .before .before .before .loop-test .taken) (c .before .before .wide .ensures) in
     search needs
 
-call-by-kind-requires : tie.Need-call-by-kind-requires Inv-loop μ-loop
-call-by-kind-requires c κs = search needs
-
-enum-known-called : tie.Need-enum-known-called Inv-loop μ-loop
-enum-known-called c = search needs
-
-enum-told : tie.Need-enum-told Inv-loop μ-loop
-enum-told c = search needs
-
-same-length : tie.Need-same-length Inv-loop μ-loop
-same-length c = search needs
-
-same-length-2 : tie.Need-same-length-2 Inv-loop μ-loop
-same-length-2 c = search needs
-
 returns : tie.Need-returns Inv-loop μ-loop
 returns c =
     let k = c .before .before .before .before in
@@ -101,18 +77,6 @@ returns c =
     let l = w .before .before .before .loop in
     not-ran _ _ _ (fits-call _ _ _ (l .i) (l .at) _ (omega arith) (omega arith) (w .wide .ensures) (l .inv .behind .fit))
     (sym (c .enum-told .given .1) ∙ k .call-by-kind .ensures .0)
-
-mul-numbers : tie.Need-mul-numbers Inv-loop μ-loop
-mul-numbers c = search needs
-
-slice-write-numbers : tie.Need-slice-write-numbers Inv-loop μ-loop
-slice-write-numbers c = search needs
-
-add-i : tie.Need-add-i Inv-loop μ-loop
-add-i c = search needs
-
-loop-less : tie.Need-loop-less Inv-loop μ-loop
-loop-less c = search needs
 
 loop-again : tie.Need-loop-again Inv-loop μ-loop
 loop-again c =
@@ -132,12 +96,6 @@ loop-again c =
           (ran _ _ _ _ (a .0 .0) (sym (a .1) ∙ k .call-by-kind .ensures .0) (k .call-by-kind .ensures .1)) (l .inv .behind);
     }
 
-same-length-3 : tie.Need-same-length-3 Inv-loop μ-loop
-same-length-3 c = search needs
-
-same-length-4 : tie.Need-same-length-4 Inv-loop μ-loop
-same-length-4 c = search needs
-
 returns-2 : tie.Need-returns-2 Inv-loop μ-loop
 returns-2 c =
     let l = c .before .loop in
@@ -150,25 +108,25 @@ run-spec =
     Inv-loop
     μ-loop
     loop-holds
-    shared-slice-read-wide
-    wide-requires
+    (λ c. search needs)
+    (λ c κs. search needs)
     add-end
-    shared-slice-read-call-by-kind
+    (λ c. search needs)
     mul-call-by-kind
     sub-call-by-kind
     part-call-by-kind-start
     part-call-by-kind-end
-    call-by-kind-requires
-    enum-known-called
-    enum-told
-    same-length
-    same-length-2
+    (λ c κs. search needs)
+    (λ c. search needs)
+    (λ c. search needs)
+    (λ c. search needs)
+    (λ c. search needs)
     returns
-    mul-numbers
-    slice-write-numbers
-    add-i
-    loop-less
+    (λ c. search needs)
+    (λ c. search needs)
+    (λ c. search needs)
+    (λ c. search needs)
     loop-again
-    same-length-3
-    same-length-4
+    (λ c. search needs)
+    (λ c. search needs)
     returns-2)

@@ -15,18 +15,6 @@ small c =
     let to = c .before .number-of2 in
     omega (arith, to .ensures, number-le (c .before .before .before .args .high), div-le-self (to .result - c .before .before .number-of .result) (c .stride-of .result))
 
-number-of-requires : tie.Need-number-of-requires
-number-of-requires c κs = search needs
-
-number-of-requires-2 : tie.Need-number-of-requires-2
-number-of-requires-2 c κs = search needs
-
-sub-result : tie.Need-sub-result
-sub-result c = search needs
-
-stride-of-requires : tie.Need-stride-of-requires
-stride-of-requires c κs = search needs
-
 div-result : tie.Need-div-result
 div-result c = omega (arith, c .stride-of .ensures, stride-pos (c .before .before .before .args .tier))
 
@@ -44,10 +32,10 @@ pub ladder-size-spec : {M : Type 1} → statement M
 ladder-size-spec =
     tie.close
     (tie.spec
-    number-of-requires
-    number-of-requires-2
-    sub-result
-    stride-of-requires
+    (λ c κs. search needs)
+    (λ c κs. search needs)
+    (λ c. search needs)
+    (λ c κs. search needs)
     div-result
     cast-result
     add-result

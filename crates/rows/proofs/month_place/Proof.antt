@@ -26,47 +26,11 @@ size : (c : tie.After-ladder-size Inv-loop μ-loop) →
     8 * c .ladder-size .result ≡ sizeAt (a .first) months (a .t2) (c .before .before .before .before .loop .i)
 size c = rw (c .before .tier-of .ensures) at (ap (λ (k : ℕ). 8 * k) (c .ladder-size .ensures .0))
 
-live-months-requires : tie.Need-live-months-requires Inv-loop μ-loop
-live-months-requires c κs = search needs
-
 loop-holds : tie.Need-loop-holds Inv-loop μ-loop
 loop-holds c = (omega arith, omega arith, refl)
 
-mul-live : tie.Need-mul-live Inv-loop μ-loop
-mul-live c = search needs
-
-array-read-live : tie.Need-array-read-live Inv-loop μ-loop
-array-read-live c = search needs
-
-mul-span : tie.Need-mul-span Inv-loop μ-loop
-mul-span c = search needs
-
-array-copy-out-span : tie.Need-array-copy-out-span Inv-loop μ-loop
-array-copy-out-span c = search needs
-
-tier-of-requires : tie.Need-tier-of-requires Inv-loop μ-loop
-tier-of-requires c κs = search needs
-
-array-read-ladder-size : tie.Need-array-read-ladder-size Inv-loop μ-loop
-array-read-ladder-size c = search needs
-
-array-read-ladder-size-2 : tie.Need-array-read-ladder-size-2 Inv-loop μ-loop
-array-read-ladder-size-2 c = search needs
-
 ladder-size-requires : tie.Need-ladder-size-requires Inv-loop μ-loop
 ladder-size-requires c κs = c .before .before .before .before .before .pre .1 (c .before .before .before .loop .i) (c .before .before .loop-test .taken)
-
-mul-size : tie.Need-mul-size Inv-loop μ-loop
-mul-size c = search needs
-
-cast-if1 : tie.Need-cast-if1 Inv-loop μ-loop
-cast-if1 c = search needs
-
-cast-t27 : tie.Need-cast-t27 Inv-loop μ-loop
-cast-t27 c = search needs
-
-cast-t28 : tie.Need-cast-t28 Inv-loop μ-loop
-cast-t28 c = search needs
 
 returns : tie.Need-returns Inv-loop μ-loop
 returns c =
@@ -77,15 +41,6 @@ returns c =
     rw (← v .ensures, size (c .before))
     (sym (l .inv .2 ∙ rows-here (a .first) (a .month) (l .at) (v .result) (a .t2) (l .i) (omega arith) (c .if1 .taken)))
 
-add-at : tie.Need-add-at Inv-loop μ-loop
-add-at c = search needs
-
-add-i : tie.Need-add-i Inv-loop μ-loop
-add-i c = search needs
-
-loop-less : tie.Need-loop-less Inv-loop μ-loop
-loop-less c = search needs
-
 loop-again : tie.Need-loop-again Inv-loop μ-loop
 loop-again c =
     let a = c .before .before .before .before .before .before .before .args in
@@ -94,9 +49,6 @@ loop-again c =
     let n = six-months _ _ (v .ensures) in
     let e = rows-next (a .first) (a .month) (l .at) (v .result) (a .t2) (l .i) (omega arith) (c .if1 .left) in
     (omega arith, omega (arith, c .before .ladder-size .ensures .1), l .inv .2 ∙ e ∙ rw (← size (c .before)))
-
-refused-requires : tie.Need-refused-requires Inv-loop μ-loop
-refused-requires c κs = search needs
 
 returns-2 : tie.Need-returns-2 Inv-loop μ-loop
 unfolding monthPlace
@@ -115,24 +67,24 @@ month-place-spec =
     (tie.spec
     Inv-loop
     μ-loop
-    live-months-requires
+    (λ c κs. search needs)
     loop-holds
-    mul-live
-    array-read-live
-    mul-span
-    array-copy-out-span
-    tier-of-requires
-    array-read-ladder-size
-    array-read-ladder-size-2
+    (λ c. search needs)
+    (λ c. search needs)
+    (λ c. search needs)
+    (λ c. search needs)
+    (λ c κs. search needs)
+    (λ c. search needs)
+    (λ c. search needs)
     ladder-size-requires
-    mul-size
-    cast-if1
-    cast-t27
-    cast-t28
+    (λ c. search needs)
+    (λ c. search needs)
+    (λ c. search needs)
+    (λ c. search needs)
     returns
-    add-at
-    add-i
-    loop-less
+    (λ c. search needs)
+    (λ c. search needs)
+    (λ c. search needs)
     loop-again
-    refused-requires
+    (λ c κs. search needs)
     returns-2)

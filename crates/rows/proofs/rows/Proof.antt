@@ -8,24 +8,6 @@ use Rattle.rows.proofs.MonthRows.{place-inside, place-part}
 use Rattle.rows.proofs.rows.Statement.{statement}
 use Rattle.rows.proofs.rows.Tie as tie
 
-rows-place-requires : tie.Need-rows-place-requires
-rows-place-requires c κs = search needs
-
-cast-at : tie.Need-cast-at
-cast-at c = search needs
-
-cast-end : tie.Need-cast-end
-cast-end c = search needs
-
-add-end : tie.Need-add-end
-add-end c = search needs
-
-sub-result : tie.Need-sub-result
-sub-result c = search needs
-
-part-result-start : tie.Need-part-result-start
-part-result-start c = search needs
-
 part-result-end : tie.Need-part-result-end
 part-result-end c = rw (c .before .before .rows-place .ensures) (place-inside _ _ (c .before .before .before .before .before .args .month))
 
@@ -42,11 +24,11 @@ pub rows-spec : {M : Type 1} → statement M
 rows-spec =
     tie.close
     (tie.spec
-    rows-place-requires
-    cast-at
-    cast-end
-    add-end
-    sub-result
-    part-result-start
+    (λ c κs. search needs)
+    (λ c. search needs)
+    (λ c. search needs)
+    (λ c. search needs)
+    (λ c. search needs)
+    (λ c. search needs)
     part-result-end
     returns)

@@ -7,12 +7,9 @@ use Rattle.calls.specs.declared.Place.{Place}
 use Rattle.rows.proofs.rows_number.Statement.{statement}
 use Rattle.rows.proofs.rows_number.Tie as tie
 
-rows-place-requires : tie.Need-rows-place-requires
-rows-place-requires c κs = search needs
-
 returns : tie.Need-returns
 unfolding rowsPlace
 returns c = ap (λ (p : Place). p .number) (c .rows-place .ensures)
 
 pub rows-number-spec : {M : Type 1} → statement M
-rows-number-spec = tie.close (tie.spec rows-place-requires returns)
+rows-number-spec = tie.close (tie.spec (λ c κs. search needs) returns)

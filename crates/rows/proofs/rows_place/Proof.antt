@@ -41,12 +41,6 @@ first-le c = run-first _ _ (runs c .reads .size) (runs c .run)
 first-is : (c : tie.After-first-live) → let s = start (c .before .before) in c .first-live .result ≡ firstAt (cal s) (momentOf (bs s))
 first-is c = first-read _ _ (c .before .word .ensures) (c .first-live .ensures)
 
-opening-requires : tie.Need-opening-requires
-opening-requires c κs = search needs
-
-refused-requires : tie.Need-refused-requires
-refused-requires c κs = search needs
-
 returns : tie.Need-returns
 unfolding rowsCause
 returns c =
@@ -59,15 +53,6 @@ standing-requires : tie.Need-standing-requires
 standing-requires c κs =
     let o = c .before .before in
     opening-goes (cal (entry o)) (bs (entry o)) (o .opening .result) (o .opening .ensures) (c .if1 .left)
-
-array-copy-out-span : tie.Need-array-copy-out-span
-array-copy-out-span c = search needs
-
-array-read-if2 : tie.Need-array-read-if2
-array-read-if2 c = search needs
-
-refused-requires-2 : tie.Need-refused-requires-2
-refused-requires-2 c κs = search needs
 
 returns-2 : tie.Need-returns-2
 returns-2 c =
@@ -106,13 +91,13 @@ pub rows-place-spec : {M : Type 1} → statement M
 rows-place-spec =
     tie.close
     (tie.spec
-    opening-requires
-    refused-requires
+    (λ c κs. search needs)
+    (λ c κs. search needs)
     returns
     standing-requires
-    array-copy-out-span
-    array-read-if2
-    refused-requires-2
+    (λ c. search needs)
+    (λ c. search needs)
+    (λ c κs. search needs)
     returns-2
     word-requires
     first-live-requires

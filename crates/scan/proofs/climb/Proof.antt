@@ -34,23 +34,11 @@ more c =
     let f = next-of (λ n p. climbed (a .day) (a .month) (a .stride) (l .price + a .stride * bandStep (l .price)) (rowsAt (a .register .now) p n)) 8 (a .rows) (a .at) (l .n) in
     rw (l .inv .2) (omega (arith, l .inv .5, e, f))
 
-band-of-requires : tie.Need-band-of-requires Inv-loop μ-loop
-band-of-requires c κs = search needs
-
 loop-holds : tie.Need-loop-holds Inv-loop μ-loop
 loop-holds c =
     let a = c .before .before .args in
     let b = c .band-of .ensures in
     (omega arith, omega arith, b .0, b .1, b .2, start-of (λ n p. climbed (a .day) (a .month) (a .stride) (a .low) (rowsAt (a .register .now) p n)) 8 (a .rows) (a .at) ∙ omega arith)
-
-mul-row-fits : tie.Need-mul-row-fits Inv-loop μ-loop
-mul-row-fits c = search needs
-
-add-row-fits : tie.Need-add-row-fits Inv-loop μ-loop
-add-row-fits c = search needs
-
-row-fits-requires : tie.Need-row-fits-requires Inv-loop μ-loop
-row-fits-requires c κs = search needs
 
 returns : tie.Need-returns Inv-loop μ-loop
 returns c =
@@ -60,12 +48,6 @@ returns c =
     (sym (c .before .row-fits .ensures) ∙ not-true _ (c .if1 .taken)) in
     omega (arith, l .inv .5, e)
 
-add-n : tie.Need-add-n Inv-loop μ-loop
-add-n c = search needs
-
-add-price : tie.Need-add-price Inv-loop μ-loop
-add-price c = search needs
-
 returns-2 : tie.Need-returns-2 Inv-loop μ-loop
 returns-2 c =
     let a = c .before .before .before .before .before .before .before .before .before .before .args in
@@ -73,19 +55,10 @@ returns-2 c =
     let e = climbed-top (a .day) (a .month) (a .stride) (l .price + l .band .step) (rowsAt (a .register .now) (a .at + 8 * (l .n + 1)) (a .rows - (l .n + 1))) (c .if3 .taken) in
     omega (arith, more (c .before .before .before .before), e)
 
-band-of-requires-2 : tie.Need-band-of-requires-2 Inv-loop μ-loop
-band-of-requires-2 c κs = search needs
-
-loop-less : tie.Need-loop-less Inv-loop μ-loop
-loop-less c = search needs
-
 loop-again : tie.Need-loop-again Inv-loop μ-loop
 loop-again c =
     let b = c .band-of2 .ensures in
     (omega arith, c .before .if3 .left, b .0, b .1, b .2, more (c .before .before .before .before .before))
-
-loop-less-2 : tie.Need-loop-less-2 Inv-loop μ-loop
-loop-less-2 c = search needs
 
 loop-again-2 : tie.Need-loop-again-2 Inv-loop μ-loop
 loop-again-2 c =
@@ -107,18 +80,18 @@ climb-spec =
     (tie.spec
     Inv-loop
     μ-loop
-    band-of-requires
+    (λ c κs. search needs)
     loop-holds
-    mul-row-fits
-    add-row-fits
-    row-fits-requires
+    (λ c. search needs)
+    (λ c. search needs)
+    (λ c κs. search needs)
     returns
-    add-n
-    add-price
+    (λ c. search needs)
+    (λ c. search needs)
     returns-2
-    band-of-requires-2
-    loop-less
+    (λ c κs. search needs)
+    (λ c. search needs)
     loop-again
-    loop-less-2
+    (λ c. search needs)
     loop-again-2
     returns-3)

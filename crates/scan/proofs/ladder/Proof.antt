@@ -25,26 +25,11 @@ returns c =
     let a = c .before .before .args in
     sym (ladder-end (a .day) (a .month) (a .tier) (a .register .now) (a .at) (a .rows) (omega arith))
 
-add-word : tie.Need-add-word
-add-word c = search needs
-
-word-requires : tie.Need-word-requires
-word-requires c κs = search needs
-
-cast-on-grid : tie.Need-cast-on-grid
-cast-on-grid c = search needs
-
-on-grid-requires : tie.Need-on-grid-requires
-on-grid-requires c κs = search needs
-
 returns-2 : tie.Need-returns-2
 returns-2 c =
     let a = c .before .before .before .before .before .args in
     let e = rw (c .before .before .word .ensures) at (c .before .on-grid .ensures) in
     sym (ladder-off (a .day) (a .month) (a .tier) (a .register .now) (a .at) (a .rows) (omega arith) (sym e ∙ not-true _ (c .if2 .taken)))
-
-stride-of-requires : tie.Need-stride-of-requires
-stride-of-requires c κs = search needs
 
 climb-requires : tie.Need-climb-requires
 climb-requires c κs =
@@ -62,11 +47,11 @@ ladder-spec =
     tie.close
     (tie.spec
     returns
-    add-word
-    word-requires
-    cast-on-grid
-    on-grid-requires
+    (λ c. search needs)
+    (λ c κs. search needs)
+    (λ c. search needs)
+    (λ c κs. search needs)
     returns-2
-    stride-of-requires
+    (λ c κs. search needs)
     climb-requires
     returns-3)

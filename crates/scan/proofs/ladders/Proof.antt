@@ -45,35 +45,11 @@ none-left c =
     let n = six-months _ _ (v .ensures) in
     drop-of-length-le (v .result) {i = c .before .loop .i} (omega arith)
 
-live-months-requires : tie.Need-live-months-requires Inv-loop μ-loop
-live-months-requires c κs = search needs
-
 loop-holds : tie.Need-loop-holds Inv-loop μ-loop
 loop-holds c =
     let a = c .before .before .args in
     let v = c .live-months in
     (omega arith, omega arith, refl, start-of (λ n p. ladderSpans (a .day) (a .first) [] (v .result) (rowsAt (a .register .now) p n)) 8 (a .rows) rowsFrom)
-
-mul-month : tie.Need-mul-month Inv-loop μ-loop
-mul-month c = search needs
-
-array-read-month : tie.Need-array-read-month Inv-loop μ-loop
-array-read-month c = search needs
-
-mul-at : tie.Need-mul-at Inv-loop μ-loop
-mul-at c = search needs
-
-add-at : tie.Need-add-at Inv-loop μ-loop
-add-at c = search needs
-
-sub-ladder : tie.Need-sub-ladder Inv-loop μ-loop
-sub-ladder c = search needs
-
-tier-of-requires : tie.Need-tier-of-requires Inv-loop μ-loop
-tier-of-requires c κs = search needs
-
-ladder-requires : tie.Need-ladder-requires Inv-loop μ-loop
-ladder-requires c κs = search needs
 
 returns : tie.Need-returns Inv-loop μ-loop
 returns c =
@@ -85,14 +61,8 @@ returns c =
     _ (found (c .before)) (c .if1 .taken) in
     sym (rw (v .ensures) at (l .inv .3 ∙ e))
 
-add-word : tie.Need-add-word Inv-loop μ-loop
-add-word c = search needs
-
 word-requires : tie.Need-word-requires Inv-loop μ-loop
 word-requires c κs = omega (arith, fits (c .before))
-
-sub-word : tie.Need-sub-word Inv-loop μ-loop
-sub-word c = search needs
 
 mul-word : tie.Need-mul-word Inv-loop μ-loop
 mul-word c = omega (arith, fits (c .before .before))
@@ -106,20 +76,8 @@ add-word-3 c = omega (arith, fits (c .before .before))
 word-requires-2 : tie.Need-word-requires-2 Inv-loop μ-loop
 word-requires-2 c κs = omega (arith, fits (c .before .before))
 
-mul-spans : tie.Need-mul-spans Inv-loop μ-loop
-mul-spans c = search needs
-
-array-set-from-spans : tie.Need-array-set-from-spans Inv-loop μ-loop
-array-set-from-spans c = search needs
-
 add-past : tie.Need-add-past Inv-loop μ-loop
 add-past c = omega (arith, fits (c .before .before .before))
-
-add-i : tie.Need-add-i Inv-loop μ-loop
-add-i c = search needs
-
-loop-less : tie.Need-loop-less Inv-loop μ-loop
-loop-less c = search needs
 
 loop-again : tie.Need-loop-again Inv-loop μ-loop
 loop-again c =
@@ -158,28 +116,28 @@ ladders-spec =
     (tie.spec
     Inv-loop
     μ-loop
-    live-months-requires
+    (λ c κs. search needs)
     loop-holds
-    mul-month
-    array-read-month
-    mul-at
-    add-at
-    sub-ladder
-    tier-of-requires
-    ladder-requires
+    (λ c. search needs)
+    (λ c. search needs)
+    (λ c. search needs)
+    (λ c. search needs)
+    (λ c. search needs)
+    (λ c κs. search needs)
+    (λ c κs. search needs)
     returns
-    add-word
+    (λ c. search needs)
     word-requires
-    sub-word
+    (λ c. search needs)
     mul-word
     add-word-2
     add-word-3
     word-requires-2
-    mul-spans
-    array-set-from-spans
+    (λ c. search needs)
+    (λ c. search needs)
     add-past
-    add-i
-    loop-less
+    (λ c. search needs)
+    (λ c. search needs)
     loop-again
     returns-2
     returns-3)

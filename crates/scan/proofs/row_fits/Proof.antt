@@ -18,33 +18,6 @@ same c =
     let p = c .before .word2 .ensures in
     (omega arith, omega arith)
 
-word-requires : tie.Need-word-requires
-word-requires c κs = search needs
-
-cast-key : tie.Need-cast-key
-cast-key c = search needs
-
-add-word : tie.Need-add-word
-add-word c = search needs
-
-word-requires-2 : tie.Need-word-requires-2
-word-requires-2 c κs = search needs
-
-cast-key-2 : tie.Need-cast-key-2
-cast-key-2 c = search needs
-
-mul-key : tie.Need-mul-key
-mul-key c = search needs
-
-add-key : tie.Need-add-key
-add-key c = search needs
-
-mul-if1 : tie.Need-mul-if1
-mul-if1 c = search needs
-
-add-if1 : tie.Need-add-if1
-add-if1 c = search needs
-
 returns : tie.Need-returns
 returns c =
     let a = c .before .before .before .before .args in
@@ -52,24 +25,12 @@ returns c =
     let p = c .before .word2 .ensures in
     sym (fits-not (a .day) (a .month) (a .price) (rowAt (a .register .now) (a .at)) (λ e g. c .if1 .taken (omega arith)))
 
-add-word-2 : tie.Need-add-word-2
-add-word-2 c = search needs
-
-word-requires-3 : tie.Need-word-requires-3
-word-requires-3 c κs = search needs
-
 returns-2 : tie.Need-returns-2
 returns-2 c =
     let a = c .before .before .before .before .before .before .args in
     let e = same (c .before .before) in
     let f = c .before .word3 .ensures in
     sym (fits-late (a .day) (a .month) (a .price) (rowAt (a .register .now) (a .at)) (e .0) (e .1) (omega arith))
-
-add-word-3 : tie.Need-add-word-3
-add-word-3 c = search needs
-
-word-requires-4 : tie.Need-word-requires-4
-word-requires-4 c κs = search needs
 
 returns-3 : tie.Need-returns-3
 returns-3 c =
@@ -91,20 +52,20 @@ pub row-fits-spec : {M : Type 1} → statement M
 row-fits-spec =
     tie.close
     (tie.spec
-    word-requires
-    cast-key
-    add-word
-    word-requires-2
-    cast-key-2
-    mul-key
-    add-key
-    mul-if1
-    add-if1
+    (λ c κs. search needs)
+    (λ c. search needs)
+    (λ c. search needs)
+    (λ c κs. search needs)
+    (λ c. search needs)
+    (λ c. search needs)
+    (λ c. search needs)
+    (λ c. search needs)
+    (λ c. search needs)
     returns
-    add-word-2
-    word-requires-3
+    (λ c. search needs)
+    (λ c κs. search needs)
     returns-2
-    add-word-3
-    word-requires-4
+    (λ c. search needs)
+    (λ c κs. search needs)
     returns-3
     returns-4)

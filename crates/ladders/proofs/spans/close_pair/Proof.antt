@@ -6,21 +6,6 @@ use Rattle.ladders.specs.Spans.{closePair}
 use Rattle.ladders.proofs.spans.close_pair.Statement.{statement}
 use Rattle.ladders.proofs.spans.close_pair.Tie as tie
 
-array-read-if1 : tie.Need-array-read-if1
-array-read-if1 c = search needs
-
-array-read-lower : tie.Need-array-read-lower
-array-read-lower c = search needs
-
-lower-requires : tie.Need-lower-requires
-lower-requires c κs = search needs
-
-array-read-higher : tie.Need-array-read-higher
-array-read-higher c = search needs
-
-higher-requires : tie.Need-higher-requires
-higher-requires c κs = search needs
-
 returns : tie.Need-returns
 unfolding closePair
 returns c = rw (eq-eqb _ _ (c .if1 .taken))
@@ -33,10 +18,10 @@ pub close-pair-spec : {M : Type 1} → statement M
 close-pair-spec =
     tie.close
     (tie.spec
-    array-read-if1
-    array-read-lower
-    lower-requires
-    array-read-higher
-    higher-requires
+    (λ c. search needs)
+    (λ c. search needs)
+    (λ c κs. search needs)
+    (λ c. search needs)
+    (λ c κs. search needs)
     returns
     returns-2)

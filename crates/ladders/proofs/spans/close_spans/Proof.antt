@@ -26,42 +26,6 @@ abbrev μ-loop : tie.MeasureT-loop
 loop-holds : tie.Need-loop-holds Inv-loop μ-loop
 loop-holds c = (omega arith, search needs, λ k h. absurd (omega arith))
 
-mul-month : tie.Need-mul-month Inv-loop μ-loop
-mul-month c = search needs
-
-array-read-month : tie.Need-array-read-month Inv-loop μ-loop
-array-read-month c = search needs
-
-array-read-tier-of : tie.Need-array-read-tier-of Inv-loop μ-loop
-array-read-tier-of c = search needs
-
-tier-of-requires : tie.Need-tier-of-requires Inv-loop μ-loop
-tier-of-requires c κs = search needs
-
-required-strikes-requires : tie.Need-required-strikes-requires Inv-loop μ-loop
-required-strikes-requires c κs = search needs
-
-mul-was : tie.Need-mul-was Inv-loop μ-loop
-mul-was c = search needs
-
-array-copy-out-was : tie.Need-array-copy-out-was Inv-loop μ-loop
-array-copy-out-was c = search needs
-
-close-pair-requires : tie.Need-close-pair-requires Inv-loop μ-loop
-close-pair-requires c κs = search needs
-
-mul-spans : tie.Need-mul-spans Inv-loop μ-loop
-mul-spans c = search needs
-
-array-set-from-spans : tie.Need-array-set-from-spans Inv-loop μ-loop
-array-set-from-spans c = search needs
-
-add-i : tie.Need-add-i Inv-loop μ-loop
-add-i c = search needs
-
-loop-less : tie.Need-loop-less Inv-loop μ-loop
-loop-less c = search needs
-
 loop-again : tie.Need-loop-again Inv-loop μ-loop
 loop-again c =
     let r = c .before .before in
@@ -88,17 +52,17 @@ close-spans-spec =
     Inv-loop
     μ-loop
     loop-holds
-    mul-month
-    array-read-month
-    array-read-tier-of
-    tier-of-requires
-    required-strikes-requires
-    mul-was
-    array-copy-out-was
-    close-pair-requires
-    mul-spans
-    array-set-from-spans
-    add-i
-    loop-less
+    (λ c. search needs)
+    (λ c. search needs)
+    (λ c. search needs)
+    (λ c κs. search needs)
+    (λ c κs. search needs)
+    (λ c. search needs)
+    (λ c. search needs)
+    (λ c κs. search needs)
+    (λ c. search needs)
+    (λ c. search needs)
+    (λ c. search needs)
+    (λ c. search needs)
     loop-again
     returns)

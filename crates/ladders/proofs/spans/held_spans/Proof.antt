@@ -24,27 +24,6 @@ abbrev μ-loop : tie.MeasureT-loop
 loop-holds : tie.Need-loop-holds Inv-loop μ-loop
 loop-holds c = (omega arith, search needs, λ k h. absurd (omega arith))
 
-mul-month : tie.Need-mul-month Inv-loop μ-loop
-mul-month c = search needs
-
-array-read-month : tie.Need-array-read-month Inv-loop μ-loop
-array-read-month c = search needs
-
-span-in-requires : tie.Need-span-in-requires Inv-loop μ-loop
-span-in-requires c κs = search needs
-
-mul-held : tie.Need-mul-held Inv-loop μ-loop
-mul-held c = search needs
-
-array-set-from-held : tie.Need-array-set-from-held Inv-loop μ-loop
-array-set-from-held c = search needs
-
-add-i : tie.Need-add-i Inv-loop μ-loop
-add-i c = search needs
-
-loop-less : tie.Need-loop-less Inv-loop μ-loop
-loop-less c = search needs
-
 loop-again : tie.Need-loop-again Inv-loop μ-loop
 loop-again c =
     let t = c .before in
@@ -69,12 +48,12 @@ held-spans-spec =
     Inv-loop
     μ-loop
     loop-holds
-    mul-month
-    array-read-month
-    span-in-requires
-    mul-held
-    array-set-from-held
-    add-i
-    loop-less
+    (λ c. search needs)
+    (λ c. search needs)
+    (λ c κs. search needs)
+    (λ c. search needs)
+    (λ c. search needs)
+    (λ c. search needs)
+    (λ c. search needs)
     loop-again
     returns)

@@ -6,12 +6,6 @@ use Rattle.ladders.specs.Spans.{newPair}
 use Rattle.ladders.proofs.spans.new_pair.Statement.{statement}
 use Rattle.ladders.proofs.spans.new_pair.Tie as tie
 
-array-read-if1 : tie.Need-array-read-if1
-array-read-if1 c = search needs
-
-with-announced-requires : tie.Need-with-announced-requires
-with-announced-requires c κs = search needs
-
 returns : tie.Need-returns
 unfolding newPair
 returns c = rw (eq-eqb _ _ (c .if1 .taken))
@@ -21,4 +15,4 @@ unfolding newPair
 returns-2 c = rw (ne-eqb _ _ (c .before .if1 .left)) (c .with-announced .ensures)
 
 pub new-pair-spec : {M : Type 1} → statement M
-new-pair-spec = tie.close (tie.spec array-read-if1 with-announced-requires returns returns-2)
+new-pair-spec = tie.close (tie.spec (λ c. search needs) (λ c κs. search needs) returns returns-2)

@@ -35,41 +35,11 @@ step c =
 loop-holds : tie.Need-loop-holds Inv-loop μ-loop
 loop-holds c = (omega arith, refl)
 
-mul-s : tie.Need-mul-s Inv-loop μ-loop
-mul-s c = search needs
-
-array-copy-out-s : tie.Need-array-copy-out-s Inv-loop μ-loop
-array-copy-out-s c = search needs
-
-mul-t : tie.Need-mul-t Inv-loop μ-loop
-mul-t c = search needs
-
-array-copy-out-t : tie.Need-array-copy-out-t Inv-loop μ-loop
-array-copy-out-t c = search needs
-
-array-read-if1 : tie.Need-array-read-if1 Inv-loop μ-loop
-array-read-if1 c = search needs
-
-array-read-if1-2 : tie.Need-array-read-if1-2 Inv-loop μ-loop
-array-read-if1-2 c = search needs
-
 returns : tie.Need-returns Inv-loop μ-loop
 returns c = sym (step (c .before .before .before) ∙ rw (ne-eqb _ _ (c .if1 .taken)))
 
-array-read-if2 : tie.Need-array-read-if2 Inv-loop μ-loop
-array-read-if2 c = search needs
-
-array-read-if2-2 : tie.Need-array-read-if2-2 Inv-loop μ-loop
-array-read-if2-2 c = search needs
-
 returns-2 : tie.Need-returns-2 Inv-loop μ-loop
 returns-2 c = sym (step (c .before .before .before .before) ∙ rw (eq-eqb _ _ (c .before .if1 .left), ne-eqb _ _ (c .if2 .taken)))
-
-add-i : tie.Need-add-i Inv-loop μ-loop
-add-i c = search needs
-
-loop-less : tie.Need-loop-less Inv-loop μ-loop
-loop-less c = search needs
 
 loop-again : tie.Need-loop-again Inv-loop μ-loop
 loop-again c = (search needs, step (c .before .before .before .before) ∙ rw (eq-eqb _ _ (c .before .if1 .left), eq-eqb _ _ (c .if2 .left)))
@@ -87,17 +57,17 @@ same-spans-spec =
     Inv-loop
     μ-loop
     loop-holds
-    mul-s
-    array-copy-out-s
-    mul-t
-    array-copy-out-t
-    array-read-if1
-    array-read-if1-2
+    (λ c. search needs)
+    (λ c. search needs)
+    (λ c. search needs)
+    (λ c. search needs)
+    (λ c. search needs)
+    (λ c. search needs)
     returns
-    array-read-if2
-    array-read-if2-2
+    (λ c. search needs)
+    (λ c. search needs)
     returns-2
-    add-i
-    loop-less
+    (λ c. search needs)
+    (λ c. search needs)
     loop-again
     returns-3)

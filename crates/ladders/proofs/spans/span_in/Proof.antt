@@ -20,30 +20,12 @@ abbrev μ-loop : tie.MeasureT-loop
 loop-holds : tie.Need-loop-holds Inv-loop μ-loop
 loop-holds c = (omega arith, refl)
 
-mul-if1 : tie.Need-mul-if1 Inv-loop μ-loop
-mul-if1 c = search needs
-
-array-read-if1 : tie.Need-array-read-if1 Inv-loop μ-loop
-array-read-if1 c = search needs
-
-mul-result : tie.Need-mul-result Inv-loop μ-loop
-mul-result c = search needs
-
-array-copy-out-result : tie.Need-array-copy-out-result Inv-loop μ-loop
-array-copy-out-result c = search needs
-
 returns : tie.Need-returns Inv-loop μ-loop
 returns c =
     let t = c .before .before in
     let a = t .before .before .args in
     let l = t .before .loop in
     sym (l .inv .1 ∙ span-step (a .t1) (a .t2) (a .month) (l .i) (search needs) (search needs) ∙ rw (eq-eqb _ _ (c .before .if1 .taken)))
-
-add-i : tie.Need-add-i Inv-loop μ-loop
-add-i c = search needs
-
-loop-less : tie.Need-loop-less Inv-loop μ-loop
-loop-less c = search needs
 
 loop-again : tie.Need-loop-again Inv-loop μ-loop
 loop-again c =
@@ -65,12 +47,12 @@ span-in-spec =
     Inv-loop
     μ-loop
     loop-holds
-    mul-if1
-    array-read-if1
-    mul-result
-    array-copy-out-result
+    (λ c. search needs)
+    (λ c. search needs)
+    (λ c. search needs)
+    (λ c. search needs)
     returns
-    add-i
-    loop-less
+    (λ c. search needs)
+    (λ c. search needs)
     loop-again
     returns-2)

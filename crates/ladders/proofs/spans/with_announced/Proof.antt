@@ -23,47 +23,8 @@ Inv-loop register n month low₀ high₀ k₀ low high k =
 abbrev μ-loop : tie.MeasureT-loop
 μ-loop register n month low₀ high₀ k₀ low high k = n - k
 
-array-read-low : tie.Need-array-read-low Inv-loop μ-loop
-array-read-low c = search needs
-
-array-read-high : tie.Need-array-read-high Inv-loop μ-loop
-array-read-high c = search needs
-
 loop-holds : tie.Need-loop-holds Inv-loop μ-loop
 loop-holds c = let e : c .before .args .n - 0 ≡ c .before .args .n = omega arith in (omega arith, rw e)
-
-mul-word : tie.Need-mul-word Inv-loop μ-loop
-mul-word c = search needs
-
-add-word : tie.Need-add-word Inv-loop μ-loop
-add-word c = search needs
-
-word-requires : tie.Need-word-requires Inv-loop μ-loop
-word-requires c κs = search needs
-
-mul-word-2 : tie.Need-mul-word-2 Inv-loop μ-loop
-mul-word-2 c = search needs
-
-add-word-2 : tie.Need-add-word-2 Inv-loop μ-loop
-add-word-2 c = search needs
-
-add-word-3 : tie.Need-add-word-3 Inv-loop μ-loop
-add-word-3 c = search needs
-
-word-requires-2 : tie.Need-word-requires-2 Inv-loop μ-loop
-word-requires-2 c κs = search needs
-
-lower-requires : tie.Need-lower-requires Inv-loop μ-loop
-lower-requires c κs = search needs
-
-higher-requires : tie.Need-higher-requires Inv-loop μ-loop
-higher-requires c κs = search needs
-
-add-k : tie.Need-add-k Inv-loop μ-loop
-add-k c = search needs
-
-loop-less : tie.Need-loop-less Inv-loop μ-loop
-loop-less c = search needs
 
 loop-again : tie.Need-loop-again Inv-loop μ-loop
 loop-again c =
@@ -93,19 +54,19 @@ with-announced-spec =
     (tie.spec
     Inv-loop
     μ-loop
-    array-read-low
-    array-read-high
+    (λ c. search needs)
+    (λ c. search needs)
     loop-holds
-    mul-word
-    add-word
-    word-requires
-    mul-word-2
-    add-word-2
-    add-word-3
-    word-requires-2
-    lower-requires
-    higher-requires
-    add-k
-    loop-less
+    (λ c. search needs)
+    (λ c. search needs)
+    (λ c κs. search needs)
+    (λ c. search needs)
+    (λ c. search needs)
+    (λ c. search needs)
+    (λ c κs. search needs)
+    (λ c κs. search needs)
+    (λ c κs. search needs)
+    (λ c. search needs)
+    (λ c. search needs)
     loop-again
     returns)

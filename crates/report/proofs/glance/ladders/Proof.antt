@@ -12,61 +12,22 @@ Inv-loop out₀ at calendar register at₀ place₀ t10 out at' place = length o
 abbrev μ-loop : tie.MeasureT-loop
 μ-loop out₀ at calendar register at₀ place₀ t10 out at' place = 6 - place
 
-slice-aggregate-put : tie.Need-slice-aggregate-put Inv-loop μ-loop
-slice-aggregate-put c = search needs
-
-put-requires : tie.Need-put-requires Inv-loop μ-loop
-put-requires c κs = search needs
-
-loop-holds : tie.Need-loop-holds Inv-loop μ-loop
-loop-holds c = search needs
-
-live-month-requires : tie.Need-live-month-requires Inv-loop μ-loop
-live-month-requires c κs = search needs
-
-ladder-of-requires : tie.Need-ladder-of-requires Inv-loop μ-loop
-ladder-of-requires c κs = search needs
-
-columns-requires : tie.Need-columns-requires Inv-loop μ-loop
-columns-requires c κs = search needs
-
-slice-aggregate-fill : tie.Need-slice-aggregate-fill Inv-loop μ-loop
-slice-aggregate-fill c = search needs
-
-fill-requires : tie.Need-fill-requires Inv-loop μ-loop
-fill-requires c κs = search needs
-
-add-place : tie.Need-add-place Inv-loop μ-loop
-add-place c = search needs
-
-loop-less : tie.Need-loop-less Inv-loop μ-loop
-loop-less c = search needs
-
-loop-again : tie.Need-loop-again Inv-loop μ-loop
-loop-again c = search needs
-
-same-length : tie.Need-same-length Inv-loop μ-loop
-same-length c = search needs
-
-returns : tie.Need-returns Inv-loop μ-loop
-returns c = search needs
-
 pub ladders-spec : {M : Type 1} → statement M
 ladders-spec =
     tie.close
     (tie.spec
     Inv-loop
     μ-loop
-    slice-aggregate-put
-    put-requires
-    loop-holds
-    live-month-requires
-    ladder-of-requires
-    columns-requires
-    slice-aggregate-fill
-    fill-requires
-    add-place
-    loop-less
-    loop-again
-    same-length
-    returns)
+    (λ c. search needs)
+    (λ c κs. search needs)
+    (λ c. search needs)
+    (λ c κs. search needs)
+    (λ c κs. search needs)
+    (λ c κs. search needs)
+    (λ c. search needs)
+    (λ c κs. search needs)
+    (λ c. search needs)
+    (λ c. search needs)
+    (λ c. search needs)
+    (λ c. search needs)
+    (λ c. search needs))

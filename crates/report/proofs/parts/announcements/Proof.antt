@@ -12,45 +12,18 @@ Inv-loop out₀ at register n at₀ i₀ t8 out at' i = length out ≡ length ou
 abbrev μ-loop : tie.MeasureT-loop
 μ-loop out₀ at register n at₀ i₀ t8 out at' i = n - i
 
-loop-holds : tie.Need-loop-holds Inv-loop μ-loop
-loop-holds c = search needs
-
-announcement-at-requires : tie.Need-announcement-at-requires Inv-loop μ-loop
-announcement-at-requires c κs = search needs
-
-slice-aggregate-fill : tie.Need-slice-aggregate-fill Inv-loop μ-loop
-slice-aggregate-fill c = search needs
-
-fill-requires : tie.Need-fill-requires Inv-loop μ-loop
-fill-requires c κs = search needs
-
-add-i : tie.Need-add-i Inv-loop μ-loop
-add-i c = search needs
-
-loop-less : tie.Need-loop-less Inv-loop μ-loop
-loop-less c = search needs
-
-loop-again : tie.Need-loop-again Inv-loop μ-loop
-loop-again c = search needs
-
-same-length : tie.Need-same-length Inv-loop μ-loop
-same-length c = search needs
-
-returns : tie.Need-returns Inv-loop μ-loop
-returns c = search needs
-
 pub announcements-spec : {M : Type 1} → statement M
 announcements-spec =
     tie.close
     (tie.spec
     Inv-loop
     μ-loop
-    loop-holds
-    announcement-at-requires
-    slice-aggregate-fill
-    fill-requires
-    add-i
-    loop-less
-    loop-again
-    same-length
-    returns)
+    (λ c. search needs)
+    (λ c κs. search needs)
+    (λ c. search needs)
+    (λ c κs. search needs)
+    (λ c. search needs)
+    (λ c. search needs)
+    (λ c. search needs)
+    (λ c. search needs)
+    (λ c. search needs))
