@@ -1,6 +1,4 @@
 // The ladders of a start or a session, written row by row.
-pub mod spans;
-
 use base::Tier;
 use grid::Strikes;
 use layout::FIRST_DAY;

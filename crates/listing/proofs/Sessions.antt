@@ -40,10 +40,10 @@ use Rattle.layout.proofs.SpanLaws.{span-in}
 use Rattle.layout.proofs.Held.{Held, ladderOf, found, least-held, greatest-held}
 use Rattle.ladders.specs.declared.Plan.{Plan}
 use Rattle.ladders.specs.Writing.{rowsIn, pricesIn, addedOrigin, laddersFrom, planAt, Spanned, Ready}
-use Rattle.ladders.specs.Spans.{heldSpans, closePair, closeSpans, announcedPair, newPair, newSpans, sameSpans}
+use Rattle.spans.specs.Spans.{heldSpans, closePair, closeSpans, announcedPair, newPair, newSpans, sameSpans}
 use Rattle.grid.proofs.Between.{between, near-count}
 use Rattle.ladders.proofs.Ladders.{ladders-count}
-use Rattle.ladders.proofs.SpanLaws.{by-six, same-at}
+use Rattle.spans.proofs.SpanLaws.{by-six, same-at}
 use Rattle.ladders.proofs.Relisted.{added, laddersOver, leftOver, ladders-over, At, from-over}
 use Rattle.calls.specs.Listing.{kept, closeLow, closeHigh, newLow, newHigh, newOrigin, sessionBody}
 use Rattle.calls.specs.Answers as Calls

@@ -21,8 +21,8 @@ use Rattle.layout.specs.Register.{empty, running, listed}
 use Rattle.layout.specs.Bytes.{bytesOf}
 use Rattle.ladders.specs.declared.Plan.{Plan}
 use Rattle.ladders.specs.Writing.{pricesIn, addedOrigin, laddersFrom, planAt, Ready}
-use Rattle.ladders.specs.Spans.{closePair, closeSpans}
-use Rattle.ladders.proofs.SpanLaws.{by-six}
+use Rattle.spans.specs.Spans.{closePair, closeSpans}
+use Rattle.spans.proofs.SpanLaws.{by-six}
 use Rattle.ladders.proofs.Relisted.{leftOver, ladders-over, At, from-over}
 use Rattle.calls.specs.Listing.{startBody}
 use Rattle.calls.specs.Answers.{rowsHeld, count, added, removed}

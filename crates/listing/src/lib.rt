@@ -133,7 +133,7 @@ fn list_start(calendar: &[u8], register: &mut [u8], day: u16, close: u32) -> Lis
     let first = calendar::first_live(calendar, day);
     let months = calendar::live_months(first);
     let held = [[0u16; 2]; 6];
-    let spans = ladders::spans::close_spans(months, held, close);
+    let spans = spans::close_spans(months, held, close);
     let none = [0u8; 1];
     let count = list(register, &none[0..0], day, 5, months, held, spans, spans);
     Listed {
@@ -218,12 +218,12 @@ fn list_session(
     let before = calendar::first_live(calendar, base::word(register, DAY));
     let first = calendar::first_live(calendar, day);
     let months = calendar::live_months(first);
-    let held = ladders::spans::held_spans(calendar::live_months(before), spans, months);
-    let wide = ladders::spans::close_spans(months, held, close);
+    let held = spans::held_spans(calendar::live_months(before), spans, months);
+    let wide = spans::close_spans(months, held, close);
     let waiting = register[WAITING] as usize;
-    let new = ladders::spans::new_spans(register, waiting, months, held, wide);
+    let new = spans::new_spans(register, waiting, months, held, wide);
     if before == first {
-        if ladders::spans::same_spans(held, new) {
+        if spans::same_spans(held, new) {
             write_head(register, day, rows);
             return Listed {
                 number: 0,

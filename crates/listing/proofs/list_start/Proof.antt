@@ -8,7 +8,7 @@ use Rattle.rules.specs.Rulebook.{begun, firstAt}
 use Rattle.rules.proofs.RulebookLaws as Rulebook
 use Rattle.layout.specs.Bytes.{readRows}
 use Rattle.ladders.specs.Writing.{rowsIn}
-use Rattle.ladders.specs.Spans.{closeSpans}
+use Rattle.spans.specs.Spans.{closeSpans}
 use Rattle.listing.proofs.Starts.{close-low, close-high, day-in, none, start-ready, start-done}
 use Rattle.listing.proofs.list_start.Statement.{statement}
 use Rattle.listing.proofs.list_start.Tie as tie

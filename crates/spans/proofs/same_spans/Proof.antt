@@ -1,4 +1,4 @@
--- `ladders::spans::same_spans` meets its contract: what is left to compare decides.
+-- `spans::same_spans` meets its contract: what is left to compare decides.
 -- Assumes nothing.
 use mathlib.Core.Path.{_≡_, refl, sym, _∙_}
 use mathlib.Core.Bool.{_&&_}
@@ -9,10 +9,10 @@ use lib.Dec.{eqb}
 use lib.ListN.{drop, getD}
 use borrow.Author.Needs.{needs}
 use borrow.Author.Tests.{eq-eqb, ne-eqb}
-use Rattle.ladders.specs.Spans.{sameSpans}
-use Rattle.ladders.proofs.SpanLaws.{same-step, same-end}
-use Rattle.ladders.proofs.spans.same_spans.Statement.{statement}
-use Rattle.ladders.proofs.spans.same_spans.Tie as tie
+use Rattle.spans.specs.Spans.{sameSpans}
+use Rattle.spans.proofs.SpanLaws.{same-step, same-end}
+use Rattle.spans.proofs.same_spans.Statement.{statement}
+use Rattle.spans.proofs.same_spans.Tie as tie
 
 abbrev Inv-loop : tie.InvT-loop
 Inv-loop a b i₀ i = (i ≤ 6) × (sameSpans a b ≡ sameSpans (drop i a) (drop i b))

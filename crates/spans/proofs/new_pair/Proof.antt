@@ -1,10 +1,10 @@
--- `ladders::spans::new_pair` meets its contract.
+-- `spans::new_pair` meets its contract.
 -- Assumes nothing.
 use borrow.Author.Needs.{needs}
 use borrow.Author.Tests.{eq-eqb, ne-eqb}
-use Rattle.ladders.specs.Spans.{newPair}
-use Rattle.ladders.proofs.spans.new_pair.Statement.{statement}
-use Rattle.ladders.proofs.spans.new_pair.Tie as tie
+use Rattle.spans.specs.Spans.{newPair}
+use Rattle.spans.proofs.new_pair.Statement.{statement}
+use Rattle.spans.proofs.new_pair.Tie as tie
 
 returns : tie.Need-returns
 unfolding newPair

@@ -18,7 +18,7 @@ use Rattle.layout.specs.Register.{waitingOf}
 use Rattle.base.specs.Words.{at16}
 use Rattle.layout.specs.Bytes.{readPlaces}
 use Rattle.layout.specs.Spans.{spanIn}
-use Rattle.ladders.specs.Spans.{six, announcedPair, sameSpans}
+use Rattle.spans.specs.Spans.{six, announcedPair, sameSpans}
 
 -- ---- six in a row
 pub by-six : (P : ℕ → Type 0) → P 0 → P 1 → P 2 → P 3 → P 4 → P 5 → (i : ℕ) → i < 6 → P i

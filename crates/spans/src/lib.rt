@@ -10,7 +10,7 @@ ghost use Rattle.grid.specs.Grid.{lowestClose, highestClose};
 ghost use Rattle.layout.specs.Bytes.{registerLength, placesFrom, readPlaces};
 ghost use Rattle.layout.specs.Register.{mostWaiting};
 ghost use Rattle.layout.specs.Spans.{spanIn};
-ghost use Rattle.ladders.specs.Spans.{heldSpans, closePair, closeSpans, announcedPair, newPair, newSpans, sameSpans};
+ghost use Rattle.spans.specs.Spans.{heldSpans, closePair, closeSpans, announcedPair, newPair, newSpans, sameSpans};
 
 fn lower(a: u16, b: u16) -> u16
     ensures { λ r. ⌜ r ≡ min a b ⌝ }

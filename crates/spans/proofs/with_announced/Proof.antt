@@ -1,4 +1,4 @@
--- `ladders::spans::with_announced` meets its contract: the span so far takes in what is left to the same span.
+-- `spans::with_announced` meets its contract: the span so far takes in what is left to the same span.
 -- Assumes nothing.
 use mathlib.Core.Path.{_≡_, refl, sym, ap, _∙_}
 use mathlib.Core.Logic.{⊎-elim}
@@ -10,10 +10,10 @@ use borrow.Author.Needs.{needs}
 use Rattle.base.specs.Lists.{leastOf, greatestOf}
 use Rattle.layout.specs.Register.{waitingOf}
 use Rattle.layout.specs.Bytes.{readPlaces}
-use Rattle.ladders.specs.Spans.{announcedPair}
-use Rattle.ladders.proofs.SpanLaws.{places-next, announced-next, announced-other}
-use Rattle.ladders.proofs.spans.with_announced.Statement.{statement}
-use Rattle.ladders.proofs.spans.with_announced.Tie as tie
+use Rattle.spans.specs.Spans.{announcedPair}
+use Rattle.spans.proofs.SpanLaws.{places-next, announced-next, announced-other}
+use Rattle.spans.proofs.with_announced.Statement.{statement}
+use Rattle.spans.proofs.with_announced.Tie as tie
 
 abbrev Inv-loop : tie.InvT-loop
 Inv-loop register n month low₀ high₀ k₀ low high k =

@@ -1,4 +1,4 @@
--- `ladders::spans::close_spans` meets its contract: the first i places are filled.
+-- `spans::close_spans` meets its contract: the first i places are filled.
 -- Assumes nothing.
 use mathlib.Core.Path.{_≡_}
 use mathlib.Core.List.{List, []}
@@ -8,10 +8,10 @@ use lib.ListN.{length, getD, length-set}
 use borrow.Author.Needs.{needs}
 use Rattle.calendar.specs.Live.{tierOf}
 use Rattle.grid.specs.Grid.{requiredLow, requiredHigh}
-use Rattle.ladders.specs.Spans.{closePair, closeSpans}
-use Rattle.ladders.proofs.SpanLaws.{Filled, filled-more, filled}
-use Rattle.ladders.proofs.spans.close_spans.Statement.{statement}
-use Rattle.ladders.proofs.spans.close_spans.Tie as tie
+use Rattle.spans.specs.Spans.{closePair, closeSpans}
+use Rattle.spans.proofs.SpanLaws.{Filled, filled-more, filled}
+use Rattle.spans.proofs.close_spans.Statement.{statement}
+use Rattle.spans.proofs.close_spans.Tie as tie
 
 abbrev pair : List ℕ → List (List ℕ) → ℕ → ℕ → List ℕ
 pair months held close i =

@@ -1,4 +1,4 @@
--- `ladders::spans::new_spans` meets its contract: the first i places are filled.
+-- `spans::new_spans` meets its contract: the first i places are filled.
 -- Assumes nothing.
 use mathlib.Core.Path.{_≡_}
 use mathlib.Core.List.{List, []}
@@ -7,10 +7,10 @@ use native.Mathlib.Omega.{arith}
 use lib.ListN.{length, getD, drop, length-set}
 use borrow.Author.Needs.{needs}
 use Rattle.layout.specs.Bytes.{readPlaces}
-use Rattle.ladders.specs.Spans.{newPair, newSpans}
-use Rattle.ladders.proofs.SpanLaws.{Filled, filled-more, filled}
-use Rattle.ladders.proofs.spans.new_spans.Statement.{statement}
-use Rattle.ladders.proofs.spans.new_spans.Tie as tie
+use Rattle.spans.specs.Spans.{newPair, newSpans}
+use Rattle.spans.proofs.SpanLaws.{Filled, filled-more, filled}
+use Rattle.spans.proofs.new_spans.Statement.{statement}
+use Rattle.spans.proofs.new_spans.Tie as tie
 
 abbrev pair : List ℕ → ℕ → List ℕ → List (List ℕ) → List (List ℕ) → ℕ → List ℕ
 pair register n months held wide i = newPair (readPlaces n (drop 8 register)) (getD months i 0) (getD held i []) (getD wide i [])

@@ -1,10 +1,10 @@
--- `ladders::spans::close_pair` meets its contract.
+-- `spans::close_pair` meets its contract.
 -- Assumes nothing.
 use borrow.Author.Needs.{needs}
 use borrow.Author.Tests.{eq-eqb, ne-eqb}
-use Rattle.ladders.specs.Spans.{closePair}
-use Rattle.ladders.proofs.spans.close_pair.Statement.{statement}
-use Rattle.ladders.proofs.spans.close_pair.Tie as tie
+use Rattle.spans.specs.Spans.{closePair}
+use Rattle.spans.proofs.close_pair.Statement.{statement}
+use Rattle.spans.proofs.close_pair.Tie as tie
 
 returns : tie.Need-returns
 unfolding closePair

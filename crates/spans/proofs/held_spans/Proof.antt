@@ -1,4 +1,4 @@
--- `ladders::spans::held_spans` meets its contract: the first i places are filled.
+-- `spans::held_spans` meets its contract: the first i places are filled.
 -- Assumes nothing.
 use mathlib.Core.Path.{_≡_}
 use mathlib.Core.List.{List}
@@ -7,10 +7,10 @@ use native.Mathlib.Omega.{arith}
 use lib.ListN.{length, getD, length-set}
 use borrow.Author.Needs.{needs}
 use Rattle.layout.specs.Spans.{spanIn}
-use Rattle.ladders.specs.Spans.{heldSpans}
-use Rattle.ladders.proofs.SpanLaws.{Filled, filled-more, filled}
-use Rattle.ladders.proofs.spans.held_spans.Statement.{statement}
-use Rattle.ladders.proofs.spans.held_spans.Tie as tie
+use Rattle.spans.specs.Spans.{heldSpans}
+use Rattle.spans.proofs.SpanLaws.{Filled, filled-more, filled}
+use Rattle.spans.proofs.held_spans.Statement.{statement}
+use Rattle.spans.proofs.held_spans.Tie as tie
 
 abbrev pair : List ℕ → List (List ℕ) → List ℕ → ℕ → List ℕ
 pair before spans months i = spanIn before spans (getD months i 0)

@@ -1,4 +1,4 @@
--- `ladders::spans::span_in` meets its contract: what is left of the search is the search.
+-- `spans::span_in` meets its contract: what is left of the search is the search.
 -- Assumes nothing.
 use mathlib.Core.Path.{_≡_, refl, sym, _∙_}
 use Prim.Native.Nat.{_+_, _-_, _≤_}
@@ -7,9 +7,9 @@ use lib.ListN.{length, drop}
 use borrow.Author.Needs.{needs}
 use borrow.Author.Tests.{eq-eqb, ne-eqb}
 use Rattle.layout.specs.Spans.{spanIn}
-use Rattle.ladders.proofs.SpanLaws.{span-step, span-none}
-use Rattle.ladders.proofs.spans.span_in.Statement.{statement}
-use Rattle.ladders.proofs.spans.span_in.Tie as tie
+use Rattle.spans.proofs.SpanLaws.{span-step, span-none}
+use Rattle.spans.proofs.span_in.Statement.{statement}
+use Rattle.spans.proofs.span_in.Tie as tie
 
 abbrev Inv-loop : tie.InvT-loop
 Inv-loop month months spans i₀ i = (i ≤ 6) × (spanIn months spans month ≡ spanIn (drop i months) (drop i spans) month)
