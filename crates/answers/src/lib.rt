@@ -29,7 +29,7 @@ fn count_sessions(calendar: &[u8]) -> u32 {
 
 fn check_bytes(calendar: &[u8]) -> i32 {
     let mut out = io::buffer();
-    let checked = calendar::check(calendar);
+    let checked = passing::check(calendar);
     if checked.number != 0 {
         let end = wording::calendar_refusal(
             &mut out,
@@ -157,7 +157,7 @@ fn show(calendar: &[u8], register: &[u8]) -> i32 {
 pub fn ask(command: u32, calendar: &[u8], register: &[u8]) -> i32 {
     let number = reading::cause(calendar, register);
     if number != 0 {
-        let checked = calendar::check(calendar);
+        let checked = passing::check(calendar);
         return refuse(calendar, register, number, checked.month, 0, 0);
     }
     match command {

@@ -16,7 +16,7 @@ ghost use Rattle.calls.specs.Answers.{afterAt, listedAt, announcedAt};
 pub extern "C" fn sindhopul_calendar_check(calendar: &[u8]) -> Checked
     ensures { λ r. ⌜ r ≡ checkOf (now (calendar .entry)) ⌝ }
 {
-    calendar::check(calendar)
+    passing::check(calendar)
 }
 
 #[no_mangle]

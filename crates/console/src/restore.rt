@@ -161,7 +161,7 @@ fn compare_files(register: &[u8]) -> i32 {
 pub fn run(command: u32, calendar: &[u8]) -> i32 {
     let mut register = space::register();
     // a calendar that is refused would refuse every call
-    let checked = calendar::check(calendar);
+    let checked = passing::check(calendar);
     if checked.number != 0 {
         return refuse(calendar, &register, checked.number, checked.month, 0, 0);
     }

@@ -131,7 +131,7 @@ pub extern "C" fn lookup_next_session(calendar: &[u8], day: u32) -> u32
 pub extern "C" fn lookup_first_live(calendar: &[u8], day: u32) -> u32
     ensures { λ r. ⌜ r ≡ orOutside (eqb (calendarCause (now (calendar .entry))) 0 && ltb day dayCount) (firstLive (expiryOf (now (calendar .entry))) day) ⌝ }
 {
-    let checked = calendar::check(calendar);
+    let checked = passing::check(calendar);
     if checked.number != 0 {
         return OUTSIDE;
     }

@@ -1,4 +1,4 @@
--- `calendar::first_quiet` meets its contract. The loop keeps what is ensured, of the month where it stands: each month that it passes has its session.
+-- `passing::first_quiet` meets its contract. The loop keeps what is ensured, of the month where it stands: each month that it passes has its session.
 -- Assumes nothing.
 use mathlib.Core.Path.{_≡_, refl, sym, _∙_}
 use Prim.Native.Nat.{_-_, _≤_}
@@ -9,10 +9,10 @@ use Rattle.base.specs.Search.{firstIn}
 use Rattle.base.proofs.SearchLaws.{first-miss}
 use Rattle.dates.specs.Months.{monthCount}
 use Rattle.dates.proofs.MonthLaws.{third-friday-is, third-friday-rule, third-friday-below}
 use Rattle.calendar.specs.Calendar.{lacks, firstLacking}
 use Rattle.calendar.proofs.CalendarLaws.{lacks-not}
-use Rattle.calendar.proofs.first_quiet.Statement.{statement}
-use Rattle.calendar.proofs.first_quiet.Tie as tie
+use Rattle.passing.proofs.first_quiet.Statement.{statement}
+use Rattle.passing.proofs.first_quiet.Tie as tie
 
 abbrev Inv-loop : tie.InvT-loop
 Inv-loop cal fridays month₀ month = (month ≤ monthCount) × (firstLacking cal ≡ firstIn (lacks cal) month monthCount)

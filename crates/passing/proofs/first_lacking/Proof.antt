@@ -1,11 +1,11 @@
--- `calendar::first_lacking` meets its contract: where no byte is zero each month has its session, else the scan finds the first that has none.
+-- `passing::first_lacking` meets its contract: where no byte is zero each month has its session, else the scan finds the first that has none.
 -- Assumes nothing.
 use mathlib.Core.Path.{sym}
 use native.Mathlib.Omega.{arith}
 use borrow.Author.Needs.{needs}
 use Rattle.calendar.proofs.CalendarLaws.{no-zero-byte}
-use Rattle.calendar.proofs.first_lacking.Statement.{statement}
-use Rattle.calendar.proofs.first_lacking.Tie as tie
+use Rattle.passing.proofs.first_lacking.Statement.{statement}
+use Rattle.passing.proofs.first_lacking.Tie as tie
 
 returns : tie.Need-returns
 returns c =

@@ -1,4 +1,4 @@
--- `calendar::scan_months` meets its contract. Both loops keep an equation: what is left to search decides as the whole would.
+-- `passing::scan_months` meets its contract. Both loops keep an equation: what is left to search decides as the whole would.
 -- Assumes nothing.
 use mathlib.Core.Path.{_≡_, sym, _∙_}
 use mathlib.Core.Bool.{not, _||_}
@@ -10,11 +10,11 @@ use Rattle.base.specs.Search.{firstIn, someIn}
 use Rattle.base.proofs.SearchLaws.{first-end, first-hit, first-miss}
 use Rattle.dates.specs.Months.{monthCount, thirdFriday}
 use Rattle.dates.proofs.MonthLaws.{third-friday-is, third-friday-rule, third-friday-below}
 use Rattle.calendar.specs.Calendar.{session, lacks, firstLacking}
 use Rattle.base.proofs.SearchLaws.{some-first, some-empty}
 use Rattle.calendar.proofs.CalendarLaws.{lacks-parts}
-use Rattle.calendar.proofs.scan_months.Statement.{statement}
-use Rattle.calendar.proofs.scan_months.Tie as tie
+use Rattle.passing.proofs.scan_months.Statement.{statement}
+use Rattle.passing.proofs.scan_months.Tie as tie
 
 abbrev Inv-loop : tie.InvT-loop
 Inv-loop cal fridays month last day₀ found₀ day found =

@@ -1,11 +1,11 @@
--- `calendar::recent_session` meets its contract: the 15 days are a stretch of the bits of four bytes taken as one number.
+-- `passing::recent_session` meets its contract: the 15 days are a stretch of the bits of four bytes taken as one number.
 -- Assumes nothing.
 use Prim.Native.Nat.{ℕ, _+_, _-_, _*_, _/_}
 use native.Mathlib.Omega.{arith}
 use borrow.Author.Needs.{needs}
 use Rattle.calendar.proofs.CalendarLaws.{four-bytes}
-use Rattle.calendar.proofs.recent_session.Statement.{statement}
-use Rattle.calendar.proofs.recent_session.Tie as tie
+use Rattle.passing.proofs.recent_session.Statement.{statement}
+use Rattle.passing.proofs.recent_session.Tie as tie
 
 cast-high : tie.Need-cast-high
 cast-high c = omega (arith, c .shared-slice-known .given (c .before .args .last / 16 * 2 - 2 + 2))

@@ -1,4 +1,4 @@
--- `calendar::least_byte` meets its contract. The loop keeps an equation: the least of what is left and of `least` is the whole list's.
+-- `passing::least_byte` meets its contract. The loop keeps an equation: the least of what is left and of `least` is the whole list's.
 -- Assumes nothing.
 use mathlib.Core.Path.{_≡_, refl, sym, ap, _∙_}
 use mathlib.Core.Logic.{⊎-elim}
@@ -9,8 +9,8 @@ use lib.ListN.{length, drop, getD, drop-of-length-le}
 use lib.Seq.{drop-cons}
 use Rattle.base.specs.Lists.{leastOf}
 use Rattle.base.proofs.ListLaws.{least-step}
-use Rattle.calendar.proofs.least_byte.Statement.{statement}
-use Rattle.calendar.proofs.least_byte.Tie as tie
+use Rattle.passing.proofs.least_byte.Statement.{statement}
+use Rattle.passing.proofs.least_byte.Tie as tie
 
 abbrev Inv-loop : tie.InvT-loop
 Inv-loop cal least₀ i₀ least i = (i ≤ length cal) × (leastOf 255 cal ≡ leastOf least (drop i cal))

@@ -1,4 +1,4 @@
--- `calendar::check` meets its contract: each return rewrites with the tests that led there.
+-- `passing::check` meets its contract: each return rewrites with the tests that led there.
 -- Assumes nothing.
 use native.Mathlib.Omega.{arith}
 use lib.ListN.{length}
@@ -6,10 +6,10 @@ use borrow.Author.Needs.{needs}
 use borrow.Author.Tests.{ne-eqb, eq-eqb, lt-ltb, le-ltb}
 use Rattle.base.specs.Causes.{cause, firstOf}
 use Rattle.dates.specs.Months.{monthCount}
 use Rattle.calendar.specs.Calendar.{calendarLength, calendarCauses, calendarCause, checkOf}
 use Rattle.calendar.proofs.CalendarLaws.{tail-set, months-decide}
-use Rattle.calendar.proofs.check.Statement.{statement}
-use Rattle.calendar.proofs.check.Tie as tie
+use Rattle.passing.proofs.check.Statement.{statement}
+use Rattle.passing.proofs.check.Tie as tie
 
 returns : tie.Need-returns
 unfolding checkOf calendarCause calendarCauses cause firstOf
