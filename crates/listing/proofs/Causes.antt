@@ -16,7 +16,8 @@ use Rattle.rules.specs.Rulebook.{begun, moved, firstAt, rules}
 use Rattle.calls.specs.Calls.{start, session as sessionCall}
 use Rattle.layout.specs.Register.{Body, empty, running}
 use Rattle.calls.specs.Listing.{number}
-use Rattle.listing.specs.Writing.{listingCause, Taken}
+use Rattle.listing.specs.Refusals.{listingCause}
+use Rattle.relisting.specs.Writing.{Taken}
 
 -- ---- causes 20 and 21
 module _ (first close : ℕ) where

@@ -1,8 +1,1 @@
 pub mod Causes
-pub mod Head
-pub mod Counting
-pub mod Plans
-pub mod Starts
-pub mod Before
-pub mod NextMonth
-pub mod Sessions

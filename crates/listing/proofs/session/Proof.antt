@@ -15,9 +15,9 @@ use Rattle.calls.specs.Listing.{number, accepted}
 use Rattle.calls.proofs.AnswerLaws.{refused-listed, own-refused, accepted-listed}
 use Rattle.register.proofs.Well.{run-day}
 use Rattle.register.proofs.Opens.{RunsWith, opening-refused, opening-goes, standing-refused, standing-runs}
-use Rattle.listing.specs.Writing.{Taken}
+use Rattle.relisting.specs.Writing.{Taken}
 use Rattle.listing.proofs.Causes.{session-taken}
-use Rattle.listing.proofs.Starts.{day-in}
+use Rattle.relisting.proofs.Starts.{day-in}
 use Rattle.listing.proofs.session.Statement.{statement}
 use Rattle.listing.proofs.session.Tie as tie
 

@@ -13,7 +13,7 @@ use Rattle.layout.specs.Register.{running}
 use Rattle.layout.specs.Bytes.{momentOf, bodyOf}
 use Rattle.calls.specs.Calls.{session}
 use Rattle.calls.specs.Listing.{number}
-use Rattle.listing.specs.Writing.{listingCause}
+use Rattle.listing.specs.Refusals.{listingCause}
 use Rattle.listing.proofs.Causes.{late, no-session, session-goes}
 use Rattle.listing.proofs.session_cause.Statement.{statement}
 use Rattle.listing.proofs.session_cause.Tie as tie

@@ -14,9 +14,9 @@ use Rattle.calls.specs.Calls.{Call}
 use Rattle.calls.specs.Listing.{number, accepted}
 use Rattle.calls.proofs.AnswerLaws.{refused-listed, own-refused, accepted-listed}
 use Rattle.register.proofs.Opens.{opening-refused, opening-empty, opening-goes, standing-refused, standing-runs}
-use Rattle.listing.specs.Writing.{Taken}
+use Rattle.relisting.specs.Writing.{Taken}
 use Rattle.listing.proofs.Causes.{start-taken}
-use Rattle.listing.proofs.Starts.{day-in}
+use Rattle.relisting.proofs.Starts.{day-in}
 use Rattle.listing.proofs.start.Statement.{statement}
 use Rattle.listing.proofs.start.Tie as tie
 

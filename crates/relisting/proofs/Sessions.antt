@@ -49,14 +49,14 @@ use Rattle.calls.specs.Listing.{kept, closeLow, closeHigh, newLow, newHigh, new
 use Rattle.calls.specs.Answers as Calls
 use Rattle.calls.specs.Answers.{count, rowsHeld, removed}
 use Rattle.calls.specs.declared.Listed.{Listed}
-use Rattle.listing.specs.Writing.{answer, headBytes, quietBytes, Taken, droppedRows}
-use Rattle.listing.proofs.Head.{quiet-is}
+use Rattle.relisting.specs.Writing.{answer, headBytes, quietBytes, Taken, droppedRows}
+use Rattle.relisting.proofs.Head.{quiet-is}
 use Rattle.calls.proofs.CountLaws.{count-append, on, none-yet, of, ladder-all, rows-none}
-use Rattle.listing.proofs.Counting.{count-months}
-use Rattle.listing.proofs.Plans.{prices-rise, index-of, ready}
-use Rattle.listing.proofs.Before as B
-use Rattle.listing.proofs.Before.{rows-behind, old, well, rows-laid, holds, waits-next}
-use Rattle.listing.proofs.NextMonth.{behind, stay-live, live-from}
+use Rattle.relisting.proofs.Counting.{count-months}
+use Rattle.relisting.proofs.Plans.{prices-rise, index-of, ready}
+use Rattle.relisting.proofs.Before as B
+use Rattle.relisting.proofs.Before.{rows-behind, old, well, rows-laid, holds, waits-next}
+use Rattle.relisting.proofs.NextMonth.{behind, stay-live, live-from}
 
 -- the lower and the higher of two numbers is one of them
 min-P : (P : ℕ → Type 0) (i j : ℕ) → P i → P j → P (min i j)

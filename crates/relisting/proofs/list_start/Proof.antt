@@ -1,4 +1,4 @@
--- `listing::list_start` meets its contract.
+-- `relisting::list_start` meets its contract.
 -- Assumes nothing.
 use mathlib.Core.Path.{_≡_, _∙_}
 use native.Mathlib.Omega.{arith}
@@ -9,9 +9,9 @@ use Rattle.rules.proofs.RulebookLaws as Rulebook
 use Rattle.layout.specs.Bytes.{readRows}
 use Rattle.ladders.specs.Writing.{rowsIn}
 use Rattle.spans.specs.Spans.{closeSpans}
-use Rattle.listing.proofs.Starts.{close-low, close-high, day-in, none, start-ready, start-done}
-use Rattle.listing.proofs.list_start.Statement.{statement}
-use Rattle.listing.proofs.list_start.Tie as tie
+use Rattle.relisting.proofs.Starts.{close-low, close-high, day-in, none, start-ready, start-done}
+use Rattle.relisting.proofs.list_start.Statement.{statement}
+use Rattle.relisting.proofs.list_start.Tie as tie
 
 first-live-requires : tie.Need-first-live-requires
 unfolding begun

@@ -27,11 +27,11 @@ use Rattle.ladders.proofs.Relisted.{leftOver, ladders-over, At, from-over}
 use Rattle.calls.specs.Listing.{startBody}
 use Rattle.calls.specs.Answers.{rowsHeld, count, added, removed}
 use Rattle.calls.specs.declared.Listed.{Listed}
-use Rattle.listing.specs.Writing.{answer, quietBytes, Taken}
-use Rattle.listing.proofs.Head.{quiet-is}
+use Rattle.relisting.specs.Writing.{answer, quietBytes, Taken}
+use Rattle.relisting.proofs.Head.{quiet-is}
 use Rattle.calls.proofs.CountLaws.{on}
-use Rattle.listing.proofs.Counting.{count-months}
-use Rattle.listing.proofs.Plans.{prices-rise, ready}
+use Rattle.relisting.proofs.Counting.{count-months}
+use Rattle.relisting.proofs.Plans.{prices-rise, ready}
 
 -- a close that is taken, and a moment that has a live month
 module _ (cal : List ℕ) (x : Moment) (close : ℕ) (ok : Taken cal x close) where

@@ -1,4 +1,4 @@
--- `listing::copied` meets its contract: the first i bytes agree.
+-- `relisting::copied` meets its contract: the first i bytes agree.
 -- Assumes nothing.
 use mathlib.Core.Path.{_≡_, refl, sym, _∙_}
 use Prim.Native.Nat.{ℕ, _+_, _≤_, _-_, _<_}
@@ -7,8 +7,8 @@ use native.Mathlib.Numerals.{add-one}
 use mathlib.Core.List.{List}
 use lib.ListN.{length, take, getD, set, length-set}
 use lib.Seq.{take-suc, take-suc-set, take-all}
-use Rattle.listing.proofs.copied.Statement.{statement}
-use Rattle.listing.proofs.copied.Tie as tie
+use Rattle.relisting.proofs.copied.Statement.{statement}
+use Rattle.relisting.proofs.copied.Tie as tie
 use Rattle.layout.specs.Bytes.{registerLength}
 
 abbrev Inv-loop : tie.InvT-loop

@@ -1,12 +1,12 @@
--- `listing::write_head` meets its contract.
+-- `relisting::write_head` meets its contract.
 -- Assumes nothing.
 use lib.ListN.{length-set}
 use Rattle.base.specs.Words.{two}
-use Rattle.listing.proofs.Head.{head-is}
+use Rattle.relisting.proofs.Head.{head-is}
 use native.Mathlib.Omega.{arith}
 use borrow.Author.Needs.{needs}
-use Rattle.listing.proofs.write_head.Statement.{statement}
-use Rattle.listing.proofs.write_head.Tie as tie
+use Rattle.relisting.proofs.write_head.Statement.{statement}
+use Rattle.relisting.proofs.write_head.Tie as tie
 
 slice-write-register-2 : tie.Need-slice-write-register-2
 slice-write-register-2 c = simp length-set (omega (arith, c .before .register .given .1))

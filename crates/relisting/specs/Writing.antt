@@ -1,12 +1,11 @@
--- What the leaves of start and session ask and answer. Contracts of leaves cite this file.
+-- A start or a session that is not refused: what its leaves ask and answer. Contracts of leaves cite this file.
 -- Assumes nothing.
 use mathlib.Core.Path.{_≡_}
-use mathlib.Core.Bool.{true, cond, not}
-use mathlib.Core.List.{List, [], _∷_, _++_}
+use mathlib.Core.Bool.{true, cond}
+use mathlib.Core.List.{List, _∷_, _++_}
 use Prim.Native.Nat.{ℕ, suc, _-_, _≤_}
-use lib.Dec.{eqb, ltb}
+use lib.Dec.{eqb}
 use lib.ListN.{length, getD, replicate}
-use Rattle.base.specs.Causes.{cause, firstOf}
 use Rattle.calendar.specs.Calendar.{Passes}
 use Rattle.grid.specs.Grid.{closeTaken}
 use Rattle.grid.specs.Numbers.{numberOf}
@@ -19,16 +18,6 @@ use Rattle.base.specs.Words.{two}
 use Rattle.calls.specs.Listing.{sessionBody}
 use Rattle.calls.specs.Answers.{rowsHeld, added, removed}
 use Rattle.calls.specs.declared.Listed.{Listed}
-
--- the answer of a call that is refused
-abbrev pub refusal : ℕ → ℕ → Listed
-refusal number month = record { number = number; added = month; removed = 0; rows = 0 }
-
--- causes 20 and 21 of a start or a session, by its first live month and its close
-unfoldable pub listingCause : ℕ → ℕ → ℕ
-listingCause first close = firstOf (cause (ltb lastFirstMonth first) 20 ∷ cause (not (closeTaken close)) 21 ∷ [])
-
--- ---- a start or a session that is not refused
 
 -- what it answers, from the register before and after
 abbrev pub answer : Rules → Reg → Reg → Listed

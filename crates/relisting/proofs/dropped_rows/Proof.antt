@@ -1,4 +1,4 @@
--- `listing::dropped_rows` meets its contract.
+-- `relisting::dropped_rows` meets its contract.
 -- Assumes nothing.
 use native.Mathlib.Numerals.{add-one}
 use native.Mathlib.Omega.{arith}
@@ -6,9 +6,9 @@ use lib.ListN.{getD}
 use borrow.Author.Needs.{needs}
 use borrow.Author.Tests.{eq-eqb, ne-eqb}
 use Rattle.grid.proofs.Prices.{number-le}
-use Rattle.listing.specs.Writing.{droppedRows}
-use Rattle.listing.proofs.dropped_rows.Statement.{statement}
-use Rattle.listing.proofs.dropped_rows.Tie as tie
+use Rattle.relisting.specs.Writing.{droppedRows}
+use Rattle.relisting.proofs.dropped_rows.Statement.{statement}
+use Rattle.relisting.proofs.dropped_rows.Tie as tie
 
 add-result : tie.Need-add-result
 add-result c = omega (arith, c .number-of .ensures, number-le (getD (c .before .before .args .t3) 1 0))

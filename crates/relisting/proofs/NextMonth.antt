@@ -14,7 +14,7 @@ use Rattle.base.proofs.Rising.{risesAll, rises-all}
 use Rattle.calendar.specs.Live.{nextQuarter, liveMonths}
 use Rattle.calendar.proofs.LiveLaws.{quarter-is}
 use Rattle.rules.proofs.RulebookLaws.{live-rises}
-use Rattle.listing.proofs.Plans.{elem-at}
+use Rattle.relisting.proofs.Plans.{elem-at}
 
 -- the live months behind the first
 abbrev pub behind : ℕ → List ℕ

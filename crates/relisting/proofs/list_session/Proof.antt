@@ -1,4 +1,4 @@
--- `listing::list_session` meets its contract: each thing that the code takes up is what Sessions calls by the same name.
+-- `relisting::list_session` meets its contract: each thing that the code takes up is what Sessions calls by the same name.
 -- Assumes nothing.
 use mathlib.Core.Path.{_≡_, sym, _∙_}
 use mathlib.Core.List.{List}
@@ -15,11 +15,11 @@ use Rattle.base.specs.Words.{at16}
 use Rattle.layout.specs.Spans.{spansOf}
 use Rattle.layout.proofs.Running.{Running, runs}
 use Rattle.register.proofs.Well.{first-read, all-stand, run-keeps, run-first, run-day}
-use Rattle.listing.proofs.Starts.{close-low, close-high, day-in}
-use Rattle.listing.proofs.Before.{old}
-use Rattle.listing.proofs.Sessions.{TakenUp, up-ready, up-order, up-within, up-relisted, up-count, up-head}
-use Rattle.listing.proofs.list_session.Statement.{statement}
-use Rattle.listing.proofs.list_session.Tie as tie
+use Rattle.relisting.proofs.Starts.{close-low, close-high, day-in}
+use Rattle.relisting.proofs.Before.{old}
+use Rattle.relisting.proofs.Sessions.{TakenUp, up-ready, up-order, up-within, up-relisted, up-count, up-head}
+use Rattle.relisting.proofs.list_session.Statement.{statement}
+use Rattle.relisting.proofs.list_session.Tie as tie
 
 abbrev cal : tie.Start → List ℕ
 cal s = s .args .calendar .now

@@ -12,7 +12,7 @@ use Rattle.layout.specs.Rows.{Row}
 use Rattle.layout.specs.Register.{running}
 use Rattle.layout.specs.Bytes.{registerLength, placesBytes, rowsBytes, padded, bodyBytes, bytesOf, rowsFrom, placesLength, rowsLength}
 use Rattle.base.specs.Words.{two}
-use Rattle.listing.specs.Writing.{headBytes, quietBytes}
+use Rattle.relisting.specs.Writing.{headBytes, quietBytes}
 
 -- the eight bytes over a head of which the places are cleared
 pub head-is : (d n : ℕ) (xs zs : List ℕ) → rowsFrom ≤ length xs → zs ≡ replicate (length (take placesLength (drop 8 xs))) 0

@@ -1,11 +1,11 @@
--- `listing::relist` meets its contract.
+-- `relisting::relist` meets its contract.
 -- Assumes nothing.
 use mathlib.Core.Path.{_≡_}
 use Prim.Native.Nat.{_+_, _-_, _*_}
 use native.Mathlib.Omega.{arith}
 use borrow.Author.Needs.{needs}
-use Rattle.listing.proofs.relist.Statement.{statement}
-use Rattle.listing.proofs.relist.Tie as tie
+use Rattle.relisting.proofs.relist.Statement.{statement}
+use Rattle.relisting.proofs.relist.Tie as tie
 use Rattle.layout.specs.Bytes.{rowsFrom}
 
 -- the copy is the register, and the part lent has the rows that stay

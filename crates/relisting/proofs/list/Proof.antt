@@ -1,4 +1,4 @@
--- `listing::list` meets its contract.
+-- `relisting::list` meets its contract.
 -- Assumes nothing.
 use mathlib.Core.Path.{_∙_}
 use Prim.Native.Nat.{ℕ}
@@ -7,9 +7,9 @@ use borrow.Author.Needs.{needs}
 use Rattle.ladders.specs.declared.Plan.{Plan}
 use Rattle.ladders.specs.Writing.{rowsIn, laddersFrom, planAt}
 use Rattle.ladders.proofs.Ladders.{ladders-count}
-use Rattle.listing.proofs.Head.{listed-head}
-use Rattle.listing.proofs.list.Statement.{statement}
-use Rattle.listing.proofs.list.Tie as tie
+use Rattle.relisting.proofs.Head.{listed-head}
+use Rattle.relisting.proofs.list.Statement.{statement}
+use Rattle.relisting.proofs.list.Tie as tie
 
 abbrev plans : tie.Start → ℕ → Plan
 plans s = planAt (s .args .day) (s .args .origin) (s .args .months) (s .args .held) (s .args .wide) (s .args .spans)
