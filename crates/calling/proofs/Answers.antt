@@ -1,15 +1,13 @@
 -- What a kind and its pairs answer and leave where they are a call, and that the answer has the call's number.
 -- Assumes nothing.
-use mathlib.Core.Path.{_≡_, refl, ap, _∙_}
+use mathlib.Core.Path.{_≡_, refl, ap}
 use mathlib.Core.Bool.{false, true≢false}
 use mathlib.Core.List.{List}
 use mathlib.Core.Option.{Option, none, some}
 use Prim.Native.Nat.{ℕ}
 use Rattle.rules.specs.Rulebook.{rules}
 use Rattle.calls.specs.Calls.{Call, start, session, announce, isCall}
-use Rattle.calls.specs.Answers.{numberAt, afterAt, listedAt, announcedAt, toldAt, ofListed, ofTold, answerAt, calledAt, afterCalled}
-use Rattle.calls.specs.declared.Listed.{Listed}
-use Rattle.calls.specs.declared.Told.{Told}
+use Rattle.calls.specs.Answers.{numberAt, afterAt, listedAt, announcedAt, toldAt, answerAt, calledAt, afterCalled}
 use Rattle.calls.specs.declared.Answer.{Answer}
 use Rattle.calls.specs.declared.Called.the-variants.{Answered, NoCall}
 
@@ -25,18 +23,7 @@ as-none calendar bs none h = (refl, refl)
 as-none calendar bs (some k) h = absurd (true≢false h)
 
 -- what the call that a kind gives has answered and left, said of the kind
-module _ (calendar bs after : List ℕ) (x y : ℕ) (j : Option Call) where
-  pub as-start : (l : Listed) (r : Answer) → j ≡ some (start x y) → l ≡ listedAt calendar (start x y) bs → after ≡ afterAt (rules calendar) (start x y) bs → r ≡ ofListed l
-      → (Answered r ≡ calledAt calendar j bs) × (after ≡ afterCalled (rules calendar) j bs)
-  unfolding answerAt calledAt afterCalled
-  as-start l r s a b e = rw s (ap Answered (e ∙ ap ofListed a), b)
-
-  pub as-session : (l : Listed) (r : Answer) → j ≡ some (session x y) → l ≡ listedAt calendar (session x y) bs → after ≡ afterAt (rules calendar) (session x y) bs → r ≡ ofListed l
-      → (Answered r ≡ calledAt calendar j bs) × (after ≡ afterCalled (rules calendar) j bs)
-  unfolding answerAt calledAt afterCalled
-  as-session l r s a b e = rw s (ap Answered (e ∙ ap ofListed a), b)
-
-  pub as-announce : (l : Told) → j ≡ some (announce x y) → l ≡ announcedAt calendar (announce x y) bs → after ≡ afterAt (rules calendar) (announce x y) bs
-      → (Answered (ofTold l) ≡ calledAt calendar j bs) × (after ≡ afterCalled (rules calendar) j bs)
-  unfolding answerAt calledAt afterCalled
-  as-announce l s a b = rw s (ap Answered (ap ofTold a), b)
+pub as-call : (calendar bs after : List ℕ) (j : Option Call) (k : Call) (r : Answer) → j ≡ some k → r ≡ answerAt calendar k bs → after ≡ afterAt (rules calendar) k bs
+    → (Answered r ≡ calledAt calendar j bs) × (after ≡ afterCalled (rules calendar) j bs)
+unfolding calledAt afterCalled
+as-call calendar bs after j k r s a b = rw s (ap Answered a, b)

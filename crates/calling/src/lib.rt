@@ -1,20 +1,21 @@
 // Each call by its kind and its pairs of numbers, for journals and the console.
-use calls::ANNOUNCE;
 use calls::Answer;
 use calls::Called;
+use calls::KINDS;
 use calls::Listed;
 use calls::SESSION;
 use calls::START;
+use calls::Told;
 ghost use mathlib.Core.Path.{_≡_};
 ghost use Rattle.rules.specs.Rulebook.{rules};
 ghost use Rattle.calls.specs.Calls.{callOf, isCall};
-ghost use Rattle.calls.specs.Answers.{ofListed, calledAt, afterCalled};
+ghost use Rattle.calls.specs.Answers.{ofListed, ofTold, calledAt, afterCalled};
 
 // Whether a kind and pairs are those of a call: each kind has one pair.
 pub fn is_call(kind: u8, pairs: &[[u32; 2]]) -> bool
     ensures { λ r. ⌜ r ≡ isCall (callOf kind (now (pairs .entry))) ⌝ }
 {
-    if ANNOUNCE < kind {
+    if KINDS <= kind {
         return false;
     }
     pairs.len() == 1
@@ -28,6 +29,17 @@ fn of_listed(listed: Listed) -> Answer
         first: listed.added,
         second: listed.removed,
         third: listed.rows,
+    }
+}
+
+fn of_told(told: Told) -> Answer
+    ensures { λ r. ⌜ r ≡ ofTold told ⌝ }
+{
+    Answer {
+        number: told.number,
+        first: told.value,
+        second: 0,
+        third: 0,
     }
 }
 
@@ -51,10 +63,5 @@ pub fn call_by_kind(calendar: &[u8], register: &mut [u8], kind: u8, pairs: &[[u3
         return Called::Answered(of_listed(listed));
     }
     let announced = announcing::announce(calendar, register, x, y);
-    Called::Answered(Answer {
-        number: announced.number,
-        first: announced.value,
-        second: 0,
-        third: 0,
-    })
+    Called::Answered(of_told(announced))
 }

@@ -86,8 +86,9 @@ module _ (cal bs : List ℕ) (k : Call) where
       unfolding listedAt afterAt
       accepted-listed l out a o = (rw (zero, x .reg-is) a, rw (zero, x .reg-is) o)
 
-      pub accepted-told : (value : Reg → ℕ) (v : ℕ) (out : List ℕ) → let new = accepted (rules cal) k r in
-          v ≡ value new → out ≡ bytesOf new
-          → (_≡_ {A = Told} (record { number = 0; value = v }) (toldAt cal (numberAt (rules cal) k bs) (value (accepted (rules cal) k (regOf bs))))) × (out ≡ afterAt (rules cal) k bs)
+      -- the value may be one of the register before the call as well as of that after it
+      pub accepted-told : (value : Reg → ℕ) (v : ℕ) (out : List ℕ)
+          → v ≡ value r → out ≡ bytesOf (accepted (rules cal) k r)
+          → (_≡_ {A = Told} (record { number = 0; value = v }) (toldAt cal (numberAt (rules cal) k bs) (value (regOf bs)))) × (out ≡ afterAt (rules cal) k bs)
       unfolding toldAt afterAt
       accepted-told value v out a o = (rw (zero, x .reg-is, a), rw (zero, x .reg-is) o)

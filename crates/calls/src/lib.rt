@@ -8,6 +8,9 @@ pub const SESSION: u8 = 1;
 
 pub const ANNOUNCE: u8 = 2;
 
+// How many kinds there are; a number from here on is none.
+pub const KINDS: u8 = 3;
+
 // What a start or a session answers: its number, and where that is 0 the rows added, the rows removed and the row count;
 // beside 13 the month in `added`.
 #[repr(C)]

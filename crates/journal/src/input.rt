@@ -1,6 +1,7 @@
 // Reading a journal into lists of calls.
 use crate::UNTOLD;
 use calls::ANNOUNCE;
+use calls::KINDS;
 use calls::SESSION;
 use calls::START;
 use text::Parsed;
@@ -46,9 +47,6 @@ enum Step {
     Bad(Reason),
 }
 
-// No call's kind.
-const NO_KIND: u8 = 3;
-
 fn kind_of(word: &[u8]) -> u8 {
     if text::same(word, b"start") {
         return START;
@@ -59,7 +57,7 @@ fn kind_of(word: &[u8]) -> u8 {
     if text::same(word, b"announce") {
         return ANNOUNCE;
     }
-    NO_KIND
+    KINDS
 }
 
 // What stands behind the arguments: nothing, or `=` and perhaps the number. The values beside the number are not read.
@@ -122,7 +120,7 @@ fn parse(line: &[u8]) -> Line {
     }
     let kind = kind_of(name);
     let arguments = lines::behind(content);
-    if kind == NO_KIND {
+    if kind == KINDS {
         return Line::Bad(Reason::NotCall);
     }
     if kind == ANNOUNCE {

@@ -10,7 +10,7 @@ use layout::SPARE;
 ghost use mathlib.Core.Path.{_≡_};
 ghost use mathlib.Core.List.{_++_};
 ghost use Prim.Native.Nat.{_+_, _*_, _≤_, _<_};
-ghost use lib.ListN.{length, take, drop, getD, replicate};
+ghost use lib.ListN.{length, take, drop, getD};
 ghost use Rattle.base.specs.Lists.{within};
 ghost use Rattle.dates.specs.Months.{monthCount};
 ghost use Rattle.layout.specs.Bytes.{registerLength, mostRows, rowsFrom, rowsBytes, padded};
@@ -235,16 +235,6 @@ fn plan_at(
     }
 }
 
-pub fn clear(part: &mut [u8])
-    ensures { λ _. ⌜ now (part .exit) ≡ replicate (length (now (part .entry))) 0 ⌝ }
-{
-    let mut i: usize = 0;
-    while i < part.len() {
-        part[i] = 0;
-        i += 1;
-    }
-}
-
 // Writes the six ladders, each into the register's rest behind the month before, and clears what is behind them. `old` is the old
 // rows of the months that are live still. Returns where the rows end.
 pub fn write_ladders(
@@ -272,6 +262,6 @@ pub fn write_ladders(
         from += written.used;
         i += 1;
     }
-    clear(&mut register[at..]);
+    layout::clear(&mut register[at..]);
     at
 }

@@ -1,6 +1,7 @@
 // The register's bytes: where its parts stand and how long they are. The definitions of specs/ are the register itself: rows, a
 // running register, its bytes written and read, when it is well formed.
 ghost use mathlib.Core.Path.{_≡_};
+ghost use lib.ListN.{length, replicate};
 ghost use Rattle.layout.specs.Bytes.{allZero};
 
 // The register's length in bytes.
@@ -56,4 +57,15 @@ pub fn is_zero(bytes: &[u8]) -> bool
         i += 1;
     }
     greatest == 0
+}
+
+// Sets all bytes to zero.
+pub fn clear(part: &mut [u8])
+    ensures { λ _. ⌜ now (part .exit) ≡ replicate (length (now (part .entry))) 0 ⌝ }
+{
+    let mut i: usize = 0;
+    while i < part.len() {
+        part[i] = 0;
+        i += 1;
+    }
 }

@@ -29,7 +29,7 @@ fn write_head(register: &mut [u8], day: u16, count: u16)
     requires { ⌜ length (now register) ≡ registerLength ⌝ }
     ensures { λ _. ⌜ now (register .exit) ≡ headBytes day count ++ drop rowsFrom (now (register .entry)) ⌝ }
 {
-    ladders::clear(&mut register[PLACES..ROWS]);
+    layout::clear(&mut register[PLACES..ROWS]);
     register[STATUS] = 1;
     register[WAITING] = 0;
     register[DAY] = (day % 256) as u8;

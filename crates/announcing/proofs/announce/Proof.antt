@@ -107,7 +107,7 @@ returns-4 c =
     let w = e .before .before .before in
     let s = start w in
     let k = c .before .before .put-announcement in
-    accepted-told (cal s) (bs s) (call s) (running (bodyOf (bs s))) (runs w .reads) (none e) waitingIn _ _ (k .ensures .0) (k .ensures .1)
+    accepted-told (cal s) (bs s) (call s) (running (bodyOf (bs s))) (runs w .reads) (none e) (λ r. waitingIn (accepted (rules (cal s)) (call s) r)) _ _ (k .ensures .0) (k .ensures .1)
 
 pub announce-spec : {M : Type 1} → statement M
 announce-spec =

@@ -129,7 +129,10 @@ fn request(call: Call, has: impl Fn(u16) -> bool) -> Request {
                 (true, true) => 2_401,
             },
         },
-        _ => return Request::Rows { month },
+        Call::Rows => return Request::Rows { month },
+        Call::CalendarCheck | Call::NameWrite | Call::NameRead => {
+            unreachable!("{} takes no register", call.name())
+        }
     };
     call.into()
 }

@@ -8,7 +8,7 @@ abbrev Inv-loop : tie.InvT-loop
 Inv-loop list word place₀ place = 0 ≤ place
 
 abbrev μ-loop : tie.MeasureT-loop
-μ-loop list word place₀ place = 13 - place
+μ-loop list word place₀ place = 4294967296 - place
 
 pub place-of-spec : {M : Type 1} → statement M
 place-of-spec =

@@ -1,4 +1,4 @@
--- `ladders::clear` meets its contract: the first i bytes are zeros, the rest is as it was.
+-- `layout::clear` meets its contract: the first i bytes are zeros, the rest is as it was.
 -- Assumes nothing.
 use mathlib.Core.Path.{_≡_, refl, ap, _∙_}
 use mathlib.Core.List.{List, _++_, append-nil}
@@ -7,8 +7,8 @@ use lib.ListN.{length, drop, set, replicate, length-set}
 use lib.Seq.{drop-length}
 use borrow.Author.Fill.{fill-none, fill-more}
 use native.Mathlib.Omega.{arith}
-use Rattle.ladders.proofs.clear.Statement.{statement}
-use Rattle.ladders.proofs.clear.Tie as tie
+use Rattle.layout.proofs.clear.Statement.{statement}
+use Rattle.layout.proofs.clear.Tie as tie
 
 abbrev Inv-loop : tie.InvT-loop
 Inv-loop part₀ i₀ part i = (i ≤ length part₀) × (part ≡ replicate i 0 ++ drop i part₀) × (length part ≡ length part₀)
