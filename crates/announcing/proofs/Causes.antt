@@ -91,4 +91,4 @@ module _ (cal bs : List ℕ) (m p : ℕ) (size : length bs ≡ registerLength) (
       let R : Rules = rules cal in
       let live = not-false (elem m (R .live (bodyOf bs .at))) (or-fl _ (leb (R .expiry (bodyOf bs .at) m) (bodyOf bs .at .day)) (not-cause _ 21 (none-of _ _ c₁ .0))) in
       let on = not-false (elem p (R .grid (next R (bodyOf bs .at)) m)) (not-cause _ 22 (none-of _ _ c₂ .0)) in
-      (laws cal .live-in (bodyOf bs .at) m (r .well .live) live, laws cal .price-in (next R (bodyOf bs .at)) m p on)
+      (laws cal .live-in (bodyOf bs .at) m (r .well .sound .live) live, laws cal .price-in (next R (bodyOf bs .at)) m p on)

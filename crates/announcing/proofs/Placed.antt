@@ -2,7 +2,7 @@
 -- Assumes nothing.
 use mathlib.Core.Path.{_≡_, refl, sym, ap, _∙_}
 use mathlib.Core.List.{List, [], _∷_, _++_, append-assoc}
-use Prim.Native.Nat.{ℕ, suc, _+_, _-_, _*_, _/_, _%_, _<_}
+use Prim.Native.Nat.{ℕ, suc, _+_, _-_, _*_, _<_}
 use native.Mathlib.Omega.{arith}
 use lib.ListN.{length, getD, take, drop, set, replicate, length-append}
 use lib.Seq.{take-at, drop-at}
@@ -23,13 +23,13 @@ places-more (w ∷ ws) m p = rw (places-more ws m p)
 length-more : (ws : List (ℕ × ℕ)) (m p : ℕ) → length (ws ++ ((m, p) ∷ [])) ≡ length ws + 1
 length-more ws m p = length-append ws ((m, p) ∷ [])
 
--- the first 8 bytes of a running register with n announcements
-abbrev head : ℕ → ℕ → ℕ → List ℕ
-head n day count = 1 ∷ n ∷ day % 256 ∷ day / 256 ∷ count % 256 ∷ count / 256 ∷ 0 ∷ 0 ∷ []
+-- the first 8 bytes of a running register with n announcements: the six behind their number stay as they are
+abbrev head : ℕ → List ℕ → List ℕ
+head n six = 1 ∷ n ∷ six
 
 -- n announcements P and what is behind the places; then the four bytes q of one more are written behind P
-module _ (n day count : ℕ) (P R : List ℕ) (l : length P ≡ 4 * n) (h : n < 32) (bs : List ℕ)
-    (e : bs ≡ head n day count ++ ((P ++ replicate (placesLength - length P) 0) ++ R)) (q last : List ℕ) (four : length q ≡ 4)
+module _ (n : ℕ) (six P R : List ℕ) (sized : length six ≡ 6) (l : length P ≡ 4 * n) (h : n < 32) (bs : List ℕ)
+    (e : bs ≡ head n six ++ ((P ++ replicate (placesLength - length P) 0) ++ R)) (q last : List ℕ) (four : length q ≡ 4)
     (w : last ≡ q ++ drop 4 (take (length bs - (8 + 4 * n)) (drop (8 + 4 * n) bs))) where
   abbrev Z : List ℕ
   Z = replicate (124 - 4 * n) 0
@@ -37,24 +37,24 @@ module _ (n day count : ℕ) (P R : List ℕ) (l : length P ≡ 4 * n) (h : n < 
   zeros : replicate (placesLength - length P) 0 ≡ (0 ∷ 0 ∷ 0 ∷ 0 ∷ []) ++ Z
   zeros = let k : placesLength - length P ≡ suc (suc (suc (suc (124 - 4 * n)))) = omega arith in rw k
 
-  apart : bs ≡ (head n day count ++ P) ++ ((0 ∷ 0 ∷ 0 ∷ 0 ∷ []) ++ (Z ++ R))
-  apart = e ∙ rw (zeros, append-assoc P)
+  apart : bs ≡ (head n six ++ P) ++ ((0 ∷ 0 ∷ 0 ∷ 0 ∷ []) ++ (Z ++ R))
+  apart = e ∙ rw (zeros, append-assoc six P, append-assoc P)
 
-  front : length (head n day count ++ P) ≡ 8 + 4 * n
-  front = omega (arith, l)
+  front : length (head n six ++ P) ≡ 8 + 4 * n
+  front = omega (arith, l, sized, length-append six P)
 
-  before : take (8 + 4 * n) bs ≡ head n day count ++ P
-  before = ap (take (8 + 4 * n)) apart ∙ take-at (head n day count ++ P) ((0 ∷ 0 ∷ 0 ∷ 0 ∷ []) ++ (Z ++ R)) (8 + 4 * n) front
+  before : take (8 + 4 * n) bs ≡ head n six ++ P
+  before = ap (take (8 + 4 * n)) apart ∙ take-at (head n six ++ P) ((0 ∷ 0 ∷ 0 ∷ 0 ∷ []) ++ (Z ++ R)) (8 + 4 * n) front
 
   behind : drop 4 (drop (8 + 4 * n) bs) ≡ Z ++ R
-  behind = ap (λ (z : List ℕ). drop 4 (drop (8 + 4 * n) z)) apart ∙ ap (drop 4) (drop-at (head n day count ++ P) ((0 ∷ 0 ∷ 0 ∷ 0 ∷ []) ++ (Z ++ R)) (8 + 4 * n) front)
+  behind = ap (λ (z : List ℕ). drop 4 (drop (8 + 4 * n) z)) apart ∙ ap (drop 4) (drop-at (head n six ++ P) ((0 ∷ 0 ∷ 0 ∷ 0 ∷ []) ++ (Z ++ R)) (8 + 4 * n) front)
 
-  stored : set (putMid (8 + 4 * n) (length bs - (8 + 4 * n)) bs last) 1 (n + 1) ≡ head (n + 1) day count ++ (((P ++ q) ++ replicate (placesLength - length (P ++ q)) 0) ++ R)
+  stored : set (putMid (8 + 4 * n) (length bs - (8 + 4 * n)) bs last) 1 (n + 1) ≡ head (n + 1) six ++ (((P ++ q) ++ replicate (placesLength - length (P ++ q)) 0) ++ R)
   stored =
       let k : placesLength - length (P ++ q) ≡ 124 - 4 * n = omega (arith, length-append P q) in
-      let put : putMid (8 + 4 * n) (length bs - (8 + 4 * n)) bs last ≡ (head n day count ++ P) ++ (q ++ (Z ++ R)) =
+      let put : putMid (8 + 4 * n) (length bs - (8 + 4 * n)) bs last ≡ (head n six ++ P) ++ (q ++ (Z ++ R)) =
       put-rest (8 + 4 * n) bs last ∙ rw (before, w, whole-part (8 + 4 * n) bs, behind) in
-      rw (put, k, append-assoc (P ++ q), append-assoc P q)
+      rw (put, k, append-assoc (P ++ q), append-assoc P q, append-assoc six P)
 
 module _ (bs : List ℕ) (ok : Room bs) (m p : ℕ) where
   counted : length (bodyOf bs .waiting) ≡ getD bs 1 0
@@ -67,7 +67,7 @@ module _ (bs : List ℕ) (ok : Room bs) (m p : ℕ) where
       → set (putMid (8 + 4 * length (b .waiting)) (length bs - (8 + 4 * length (b .waiting))) bs last) 1 (length (b .waiting) + 1) ≡ bytesOf (running (announceBody b m p))
   unfolding bytesOf bodyBytes two padded announceBody
   put-any b e h last w =
-      stored (length (b .waiting)) (b .at .day) (length (b .rows)) (placesBytes (b .waiting)) (padded rowsLength (rowsBytes (b .rows))) (places-length (b .waiting)) h bs e
+      stored (length (b .waiting)) (take 6 (drop 2 (bodyBytes b))) (placesBytes (b .waiting)) (padded rowsLength (rowsBytes (b .rows))) refl (places-length (b .waiting)) h bs e
       (placeBytes m p) last refl w
       ∙ rw (places-more (b .waiting) m p, length-more (b .waiting) m p)
 

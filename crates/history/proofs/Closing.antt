@@ -27,12 +27,13 @@ use Rattle.history.specs.History.{History, blank, between, acceptedCall,
 use Rattle.layout.specs.Bytes.{registerLength, mostRows, bodyOf, bodyBytes, regOf, bytesOf, inLayout}
 use Rattle.layout.specs.Opening.{stands, emptyOrWell}
 use Rattle.layout.proofs.OpeningLaws.{none-opened}
+use Rattle.layout.proofs.Held.{Sound}
 use Rattle.layout.proofs.ByteLaws.{PlacesFit, RowsFit, Fits, RegFits, back, body-back, day-back, count-back, bytes-length, layout-kept}
 use Rattle.calls.specs.Answers.{numberAt, afterAt}
 use Rattle.history.specs.Claim.{emptyRegister, finalAt, numbersAt, rowTold, rowsStanding, HoldsDay, ClaimAt, Claim}
 use Rattle.history.proofs.Simulation.{Running, Agree, key, between-is, accept}
 use Rattle.history.proofs.Ascend.{rows-ascend}
-use Rattle.history.proofs.Sound.{Sound, SoundReg, sound-accept, well}
+use Rattle.history.proofs.Sound.{SoundReg, sound-accept, well}
 
 -- ---- what is reached fits its bytes
 
@@ -80,7 +81,7 @@ module _ (R : Rules) (L : Laws R) where
 
   module _ (h : History) (b : Body) (s : Running R h b) (v : Sound R b) where
     day-lt : b .at .day < 65536
-    day-lt = let a = L .day-in (b .at) (v .good-at) (v .live-ok) in omega arith
+    day-lt = let a = L .day-in (b .at) (v .good-at) (v .live) in omega arith
 
     row-count : length (b .rows) ≤ mostRows
     unfolding between
@@ -95,12 +96,12 @@ module _ (R : Rules) (L : Laws R) where
       day-fits = day-lt;
       waiting-fits = leb-true _ 32 (v .short);
       rows-fit = row-count;
-      places = places-fit b (v .live-ok) [] (b .waiting) (v .waiting-ok);
+      places = places-fit b (v .live) [] (b .waiting) (v .waits);
       each = rw (s .rows-are)
           (rows-fit-of (b .at .day) (R .live (b .at)) (between R (b .at) (h .low) (h .high)) (s .entry) day-lt
-          (λ m e. let a = L .live-in (b .at) m (v .live-ok) e in omega arith)
+          (λ m e. let a = L .live-in (b .at) m (v .live) e in omega arith)
           (λ m p e. let a = L .price-in (b .at) m p (and-l _ _ (sym (between-is R (b .at) (h .low) (h .high) m p) ∙ e)) in omega arith)
-          (rw (s .rows-are) at (v .rows-ok)));
+          (rw (s .rows-are) at (v .entries)));
     }
 
   -- ---- one call, and a list of calls

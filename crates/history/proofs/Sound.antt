@@ -18,19 +18,11 @@ use Rattle.calls.specs.Calls.{Call, start, session, announce}
 use Rattle.rules.proofs.Laws.{Laws}
 use Rattle.layout.specs.Rows.{Entry, newEntry, entryOk, Row, ladder, rowsOf, find}
 use Rattle.layout.specs.Register.{Body, Reg, empty, running, waitingOf, spanLow, spanHigh, sameKeys, entriesOk, listed, announceCauses, waitingOk, wellFormed}
+use Rattle.layout.proofs.Held.{Sound, well-formed}
 use Rattle.layout.proofs.RowLaws.{all-some, entry-later, entry-new, rowsOf-same}
 use Rattle.calls.specs.Listing.{closeLow, closeHigh, newLow, newHigh, kept, newOrigin, startBody, sessionBody, announceBody, number, accepted}
 use Rattle.history.specs.History.{History, between}
 use Rattle.history.proofs.Simulation.{Running, low-there, span-low, span-high, session-told}
-
--- what is well formed beyond the agreement with the history
-pub record Sound (R : Rules) (b : Body) : Type 0 where
-  pub session-day : R .isSession (b .at .day) ≡ true
-  pub good-at : R .good (b .at) ≡ true
-  pub live-ok : leb (R .firstLive (b .at)) lastFirstMonth ≡ true
-  pub rows-ok : entriesOk (b .at .day) (b .rows) ≡ true
-  pub short : leb (length (b .waiting)) 32 ≡ true
-  pub waiting-ok : waitingOk R b [] (b .waiting) ≡ true
 
 -- ---- keys
 same-ladder : (m : ℕ) (f g : ℕ → Entry) (ps : List ℕ) (xs ys : List Row) → sameKeys (ladder m f ps ++ xs) (ladder m g ps ++ ys) ≡ sameKeys xs ys
@@ -84,14 +76,10 @@ waitingOf-append m p (x ∷ xs) ys =
 module _ (R : Rules) where
   module _ (h : History) (b : Body) (s : Running R h b) (v : Sound R b) where
     pub well : wellFormed R b ≡ true
-    unfolding wellFormed listed between
+    unfolding listed between
     well =
-        and-i (v .session-day)
-        (and-i (v .good-at)
-        (and-i (v .live-ok)
-        (and-i keys
-        (and-i (all-some b (R .live (b .at)) (λ m l. rw (span-low R h b s m l) (low-there R h b s m l)))
-        (and-i (v .rows-ok) (and-i (v .short) (v .waiting-ok)))))))
+        well-formed R b
+        (record { sound = v; keys = keys; some-row = all-some b (R .live (b .at)) (λ m l. rw (span-low R h b s m l) (low-there R h b s m l)) })
       where
         span : (m : ℕ) → elem m (R .live (b .at)) ≡ true → listed R (b .at) (spanLow b) (spanHigh b) m ≡ between R (b .at) (h .low) (h .high) m
         span m l = rw (span-low R h b s m l, span-high R h b s m l)
@@ -157,11 +145,11 @@ module _ (R : Rules) where
     sound-announce v z room = record {
       session-day = v .session-day;
       good-at = v .good-at;
-      live-ok = v .live-ok;
-      rows-ok = v .rows-ok;
+      live = v .live;
+      entries = v .entries;
       short = let r = leb-false 32 (length (b .waiting)) room in
           le-leb (length (b .waiting ++ ((m, p) ∷ []))) 32 (rw (length-append (b .waiting) ((m, p) ∷ [])) (omega arith));
-      waiting-ok = all-still [] (b .waiting) z (v .waiting-ok);
+      waits = all-still [] (b .waiting) z (v .waits);
     }
 
   origin-ok : (b : Body) (d : Moment) (c m p : ℕ) → within 1 5 (newOrigin R b d c m p) ≡ true
@@ -181,11 +169,11 @@ module _ (R : Rules) where
         record {
           session-day = rw (dy, nx) (L .next-session (b .at) (v .good-at) (rw nx at fl′));
           good-at = rw nx (L .good-move (b .at) (v .good-at));
-          live-ok = fl′;
-          rows-ok = ok-rows (x .day) (R .live x) (listed R x (newLow R b x c) (newHigh R b x c)) _
-              (λ m p. kept-ok (b .at .day) (x .day) m p (newEntry (x .day) (newOrigin R b x c m p)) (b .rows) (v .rows-ok) (omega arith) (entry-new (x .day) _ (origin-ok b x c m p)));
+          live = fl′;
+          entries = ok-rows (x .day) (R .live x) (listed R x (newLow R b x c) (newHigh R b x c)) _
+              (λ m p. kept-ok (b .at .day) (x .day) m p (newEntry (x .day) (newOrigin R b x c m p)) (b .rows) (v .entries) (omega arith) (entry-new (x .day) _ (origin-ok b x c m p)));
           short = refl;
-          waiting-ok = refl;
+          waits = refl;
         }
 
     sound-start : (d c : ℕ) → R .isSession d ≡ true → ltb lastFirstMonth (R .firstLive (R .begin d)) ≡ false → Sound R (startBody R (R .begin d) c)
@@ -195,10 +183,10 @@ module _ (R : Rules) where
         record {
           session-day = rw (L .begin-day d) sd;
           good-at = L .good-begin d;
-          live-ok = le-leb _ lastFirstMonth (ltb-false lastFirstMonth (R .firstLive x) fl);
-          rows-ok = ok-rows (x .day) (R .live x) (listed R x (λ m. R .needLow x true m c) (λ m. R .needHigh x true m c)) (λ m p. newEntry (x .day) 5) (λ m p. entry-new (x .day) 5 refl);
+          live = le-leb _ lastFirstMonth (ltb-false lastFirstMonth (R .firstLive x) fl);
+          entries = ok-rows (x .day) (R .live x) (listed R x (λ m. R .needLow x true m c) (λ m. R .needHigh x true m c)) (λ m p. newEntry (x .day) 5) (λ m p. entry-new (x .day) 5 refl);
           short = refl;
-          waiting-ok = refl;
+          waits = refl;
         }
 
     abbrev pub SoundReg : Reg → Type 0

@@ -34,7 +34,7 @@ use Rattle.calls.specs.Answers.{numberAt, afterAt}
 use Rattle.history.specs.History.{History, blank, between, acceptedCall}
 use Rattle.history.specs.Claim.{emptyRegister}
 use Rattle.history.proofs.Simulation.{Running, Agree, key, accept}
-use Rattle.history.proofs.Sound.{Sound, SoundReg, sound-accept}
+use Rattle.history.proofs.Sound.{SoundReg, sound-accept}
 use Rattle.history.proofs.Closing.{last-number, reg-fits, Reached, reached-stands}
 use Rattle.history.proofs.Accepts.{Runs}
 
@@ -135,23 +135,12 @@ module _ (cal : List ℕ) (b : Body) (w : Facts (rules cal) b) where
     low-on = λ m e. number-on (tierOf f m) (holds .low m) (holds .low-on m e);
     high-on = λ m e. number-on (tierOf f m) (holds .high m) (holds .high-on m e);
     low-high = λ m e. price-mono (holds .low m) (holds .high m) (holds .order m e);
-    waiting-on = waiting-grid (rules cal) b [] (b .waiting) (w .waits);
+    waiting-on = waiting-grid (rules cal) b [] (b .waiting) (w .sound .waits);
     first-is = λ m p. refl;
-  }
-
-  sound-of : Sound (rules cal) b
-  unfolding rules
-  sound-of = record {
-    session-day = w .session-day;
-    good-at = refl;
-    live-ok = w .live;
-    rows-ok = w .entries;
-    short = w .short;
-    waiting-ok = w .waits;
   }
 
 pub run-written : (cal bs : List ℕ) → Runs cal bs → Written cal bs (running (bodyOf bs))
 unfolding bytesOf runsWell
 run-written cal bs run =
     let r = runs cal bs (and-i (ap not (run .1)) (run .2)) in
-    record { history = teller cal (bodyOf bs) (r .well); agree = tells cal (bodyOf bs) (r .well); sound = sound-of cal (bodyOf bs) (r .well); bytes = r .written }
+    record { history = teller cal (bodyOf bs) (r .well); agree = tells cal (bodyOf bs) (r .well); sound = r .well .sound; bytes = r .written }

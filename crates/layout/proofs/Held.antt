@@ -70,15 +70,19 @@ module _ (f : ℕ) (rs : List Row) (h : Held f rs) where
       greatest-is (price (h .high m)) (pricesOf m rs) (there m (h .high m) l (h .high-on m l) (h .order m l) (omega arith))
       (λ p e. within-r (price (h .low m)) (price (h .high m)) p (in-span m p e))
 
--- ---- the sentences of wellFormed one by one
-pub record Facts (R : Rules) (b : Body) : Type 0 where
+-- ---- the sentences of wellFormed one by one: those beside the ladders, and all
+pub record Sound (R : Rules) (b : Body) : Type 0 where
   pub session-day : R .isSession (b .at .day) ≡ true
+  pub good-at : R .good (b .at) ≡ true
   pub live : leb (R .firstLive (b .at)) lastFirstMonth ≡ true
-  pub keys : sameKeys (b .rows) (rowsOf (R .live (b .at)) (listed R (b .at) (spanLow b) (spanHigh b)) (λ m p. newEntry 0 0)) ≡ true
-  pub some-row : nonEmpty b (R .live (b .at)) ≡ true
   pub entries : entriesOk (b .at .day) (b .rows) ≡ true
   pub short : leb (length (b .waiting)) mostWaiting ≡ true
   pub waits : waitingOk R b [] (b .waiting) ≡ true
+
+pub record Facts (R : Rules) (b : Body) : Type 0 where
+  pub sound : Sound R b
+  pub keys : sameKeys (b .rows) (rowsOf (R .live (b .at)) (listed R (b .at) (spanLow b) (spanHigh b)) (λ m p. newEntry 0 0)) ≡ true
+  pub some-row : nonEmpty b (R .live (b .at)) ≡ true
 
 pub facts : (R : Rules) (b : Body) → wellFormed R b ≡ true → Facts R b
 unfolding wellFormed
@@ -90,14 +94,29 @@ facts R b w =
     let w₅ = and-r (nonEmpty b (R .live (b .at))) _ w₄ in
     let w₆ = and-r (entriesOk (b .at .day) (b .rows)) _ w₅ in
     record {
-      session-day = and-l (R .isSession (b .at .day)) _ w;
-      live = and-l (leb (R .firstLive (b .at)) lastFirstMonth) _ w₂;
+      sound = record {
+        session-day = and-l (R .isSession (b .at .day)) _ w;
+        good-at = and-l (R .good (b .at)) _ w₁;
+        live = and-l (leb (R .firstLive (b .at)) lastFirstMonth) _ w₂;
+        entries = and-l (entriesOk (b .at .day) (b .rows)) _ w₅;
+        short = and-l (leb (length (b .waiting)) mostWaiting) _ w₆;
+        waits = and-r (leb (length (b .waiting)) mostWaiting) _ w₆;
+      };
       keys = and-l (sameKeys (b .rows) (rowsOf (R .live (b .at)) (listed R (b .at) (spanLow b) (spanHigh b)) (λ m p. newEntry 0 0))) _ w₃;
       some-row = and-l (nonEmpty b (R .live (b .at))) _ w₄;
-      entries = and-l (entriesOk (b .at .day) (b .rows)) _ w₅;
-      short = and-l (leb (length (b .waiting)) mostWaiting) _ w₆;
-      waits = and-r (leb (length (b .waiting)) mostWaiting) _ w₆;
     }
+
+pub well-formed : (R : Rules) (b : Body) → Facts R b → wellFormed R b ≡ true
+unfolding wellFormed
+well-formed R b w =
+    let v = w .sound in
+    and-i (v .session-day)
+    (and-i (v .good-at)
+    (and-i (v .live)
+    (and-i (w .keys)
+    (and-i (w .some-row)
+    (and-i (v .entries)
+    (and-i (v .short) (v .waits)))))))
 
 -- ---- no month stands twice in a list
 abbrev pub Apart : List ℕ → Type 0

@@ -12,7 +12,7 @@ use Rattle.layout.specs.Bytes.{bodyBytes, bytesOf, bodyOf, allZero, same
 use Rattle.layout.specs.Opening.{emptyOrWell, stands}
 use Rattle.layout.specs.Spans.{runsWell}
 use Rattle.layout.proofs.ByteLaws.{same-self, same-eq}
-use Rattle.layout.proofs.Held.{Facts, facts}
+use Rattle.layout.proofs.Held.{Facts, facts, well-formed}
 
 pub record Running (cal bs : List ℕ) : Type 0 where
   pub written : bs ≡ bodyBytes (bodyOf bs)
@@ -41,13 +41,9 @@ module _ (cal bs : List ℕ) where
   unfolding allZero bodyBytes
   body-some b = refl
 
-  well-formed : Facts (rules cal) (bodyOf bs) → wellFormed (rules cal) (bodyOf bs) ≡ true
-  unfolding wellFormed rules
-  well-formed w = and-i (w .session-day) (and-i (w .live) (and-i (w .keys) (and-i (w .some-row) (and-i (w .entries) (and-i (w .short) (w .waits))))))
-
   pub runs-i : Running cal bs → runsWell cal bs ≡ true
   unfolding runsWell
   runs-i r =
       let z : allZero bs ≡ false = ap allZero (r .written) ∙ body-some (bodyOf bs) in
       let s : sameBytes bs (bodyBytes (bodyOf bs)) ≡ true = ap (sameBytes bs) (sym (r .written)) ∙ same-self bs in
-      rw z (runs-opened z ∙ and-i s (well-formed (r .well)))
+      rw z (runs-opened z ∙ and-i s (well-formed (rules cal) (bodyOf bs) (r .well)))

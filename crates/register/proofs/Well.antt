@@ -76,11 +76,11 @@ module _ (cal bs : List ℕ) (l : length bs ≡ registerLength) (r : Running cal
 
   pub run-session : session cal (at16 bs 2) ≡ true
   unfolding rules bodyOf momentOf
-  run-session = r .well .session-day
+  run-session = r .well .sound .session-day
 
   pub run-first : firstAt cal (momentOf bs) ≤ lastFirstMonth
   unfolding rules bodyOf
-  run-first = leb-true (firstAt cal (momentOf bs)) lastFirstMonth (r .well .live)
+  run-first = leb-true (firstAt cal (momentOf bs)) lastFirstMonth (r .well .sound .live)
 
   pub run-day : momentOf bs .day < dayCount
   run-day = let f = run-first in first-day cal (momentOf bs) (omega arith)
@@ -94,7 +94,7 @@ module _ (cal bs : List ℕ) (l : length bs ≡ registerLength) (r : Running cal
   run-spans =
       let f : ℕ = firstAt cal (momentOf bs) in
       ap (ladderSpans (at16 bs 2) f [] (liveMonths f)) (rows-same bs (at16 bs 4) rowsFrom (kept bs l (r .written) .1))
-      ∙ spans-held (at16 bs 2) f (bodyOf bs) run-held (r .well .entries)
+      ∙ spans-held (at16 bs 2) f (bodyOf bs) run-held (r .well .sound .entries)
 
   -- behind the places stand the bytes of its rows, then zeros
   pub rows-behind : drop rowsFrom bs ≡ rowsBytes (bodyOf bs .rows) ++ replicate (rowsLength - length (rowsBytes (bodyOf bs .rows))) 0
@@ -162,13 +162,16 @@ module _ (cal bs : List ℕ) (l : length bs ≡ registerLength) (bytes : (i : �
   stands-if w = record {
     written = sym (layout-is bs bytes l (r .keeps) ends);
     well = record {
-      session-day = r .day-session;
-      live = le-leb (firstAt cal (momentOf bs)) lastFirstMonth (r .first-le);
+      sound = record {
+        session-day = r .day-session;
+        good-at = refl;
+        live = le-leb (firstAt cal (momentOf bs)) lastFirstMonth (r .first-le);
+        entries = found .entries;
+        short = le-leb (length (bodyOf bs .waiting)) mostWaiting (omega (arith, places-count (getD bs 1 0) (drop 8 bs), r .keeps .waiting));
+        waits = w;
+      };
       keys = keys-are;
       some-row = some-row;
-      entries = found .entries;
-      short = le-leb (length (bodyOf bs .waiting)) mostWaiting (omega (arith, places-count (getD bs 1 0) (drop 8 bs), r .keeps .waiting));
-      waits = w;
     };
   }
 

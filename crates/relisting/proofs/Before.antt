@@ -97,7 +97,7 @@ module _ (cal bs : List ℕ) (size : length bs ≡ registerLength) (run : Runnin
 
   pub waits-next : (m p : ℕ) → elem p (waitingOf m (old .waiting)) ≡ true → elem p (gridOf (tierOf (firstAt cal (next (rules cal) (momentOf bs))) m)) ≡ true
   unfolding rules tierAt
-  waits-next m p e = on (waits-on (rules cal) old [] (old .waiting) (well .waits) m p e)
+  waits-next m p e = on (waits-on (rules cal) old [] (old .waiting) (well .sound .waits) m p e)
     where
       on : elem p (rules cal .grid (next (rules cal) (old .at)) m) ≡ true → elem p (gridOf (tierOf (firstAt cal (next (rules cal) (momentOf bs))) m)) ≡ true
       on x = x

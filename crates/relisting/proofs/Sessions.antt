@@ -334,7 +334,7 @@ module _ (cal bs : List ℕ) (day close : ℕ) (size : length bs ≡ registerLen
   listed-is m = rw (new-is m)
 
   none-today : count (on day) (b .rows) ≡ 0
-  none-today = none-yet day (momentOf bs .day) (b .rows) later (well cal bs size run .entries)
+  none-today = none-yet day (momentOf bs .day) (b .rows) later (well cal bs size run .sound .entries)
 
   module _ (stay : List ℕ) (gone : List Row) (s : Stays stay gone) where
     abbrev staying : List Row

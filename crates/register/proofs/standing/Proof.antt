@@ -115,7 +115,7 @@ waiting-stands-requires c κs =
     (p .0, p .1, s .keeps .waiting, rw d at (c .before .before .before .before .before .before .before .before .before .before .if2 .left), f, c .before .before .before .before .before .before .if4 .left, rw f e)
 
 returns-7 : tie.Need-returns-7
-returns-7 c = none-stand _ _ (λ r. clash _ (c .before .waiting-stands .ensures ∙ r .well .waits) (not-true _ (c .if7 .taken)))
+returns-7 c = none-stand _ _ (λ r. clash _ (c .before .waiting-stands .ensures ∙ r .well .sound .waits) (not-true _ (c .if7 .taken)))
 
 returns-8 : tie.Need-returns-8
 returns-8 c = spans (c .before .before .before .before) (sym (c .before .waiting-stands .ensures) ∙ not-false _ (c .if7 .left))
