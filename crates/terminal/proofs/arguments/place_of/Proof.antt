@@ -7,6 +7,7 @@ use Rattle.terminal.proofs.arguments.place_of.Tie as tie
 abbrev Inv-loop : tie.InvT-loop
 Inv-loop list word place₀ place = 0 ≤ place
 
+-- a place is a u32, however many commands there are
 abbrev μ-loop : tie.MeasureT-loop
 μ-loop list word place₀ place = 4294967296 - place
 
