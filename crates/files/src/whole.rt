@@ -1,42 +1,146 @@
 // Replacing a file whole.
 use crate::complain;
+use crate::fail;
+use crate::names;
+use crate::trouble;
+use attributes::Attributes;
+use libc::STDERR_FILENO;
 
-// The name of the new file beside `path`, put into `name`: .new behind it. Answers its length, 0 where it does not fit.
-pub fn beside(path: &[u8], name: &mut [u8]) -> usize {
-    let at = text::put(name, 0, path);
-    let end = text::put(name, at, b".new");
-    if end < name.len() {
+// Leaves owner or group of a file as it is.
+const AS_IT_IS: u32 = 4294967295;
+
+// Room for a path in quotes.
+const ROOM: usize = 16384;
+
+pub enum Installed {
+    Done,
+    // The file did move, but its folder could not be brought to the disk; told.
+    Unsynced,
+    // The old file is as it was; told.
+    Failed,
+}
+
+// Whether a file of these attributes, or a missing one, may be written; else that is told.
+pub fn is_destination(path: &[u8], file: Attributes) -> bool {
+    if !file.is_known {
+        fail(path);
+        return false;
+    }
+    if !file.is_there {
+        return true;
+    }
+    if attributes::is_regular(file) {
+        if attributes::is_protected(file) {
+            complain(path, b"is write-protected: no destination");
+            return false;
+        }
+        return true;
+    }
+    if attributes::is_folder(file) {
+        complain(path, b"is a folder: no destination");
+        return false;
+    }
+    complain(path, b"is a device, pipe or socket: no destination");
+    false
+}
+
+fn put_count(out: &mut [u8], at: usize, n: usize, unit: &[u8]) -> usize {
+    let mut end = text::number(out, at, text::narrowed(n));
+    end = text::put(out, end, unit);
+    if n == 1 {
         return end;
     }
-    complain(path, b"the name is too long");
+    text::put(out, end, b"s")
+}
+
+fn put_two(out: &mut [u8], n: usize, unit: &[u8], rest: usize, part: &[u8]) -> usize {
+    let end = put_count(out, 0, n, unit);
+    let end = text::put(out, end, b" ");
+    put_count(out, end, rest, part)
+}
+
+// A span of time by its two greatest parts.
+fn put_age(out: &mut [u8], seconds: usize) -> usize {
+    let minutes = seconds / 60;
+    let hours = minutes / 60;
+    if 24 <= hours {
+        return put_two(out, hours / 24, b" day", hours % 24, b" hour");
+    }
+    if 1 <= hours {
+        return put_two(out, hours, b" hour", minutes % 60, b" minute");
+    }
+    if 1 <= minutes {
+        return put_two(out, minutes, b" minute", seconds % 60, b" second");
+    }
+    put_count(out, 0, seconds, b" second")
+}
+
+fn unsigned(n: i64) -> usize {
+    if 0 <= n {
+        return n as usize;
+    }
     0
 }
 
-// Makes the new file and answers its descriptor, or -1: then trouble is told.
-pub fn lock(beside: &[u8]) -> i32 {
+// How many seconds ago a time was; 0 where it lies ahead of the clock.
+fn seconds_since(time: i64) -> usize {
+    let mut clock: i64 = 0;
+    libc::time(&mut clock);
+    let now = unsigned(clock);
+    let then = unsigned(time);
+    if now < then {
+        return 0;
+    }
+    now - then
+}
+
+// The new file is there already: since when, and how it is taken away.
+fn tell_lock(beside: &[u8]) {
+    let mut age = [0u8; 64];
+    let end = put_age(&mut age, seconds_since(attributes::of(beside).changed));
+    let mut words = [0u8; 160];
+    let at = text::put(&mut words, 0, b"is there already, for ");
+    let at = text::put(&mut words, at, text::part(&age, 0, end));
+    let at = text::put(
+        &mut words,
+        at,
+        b": another run is at work, or one was cut off",
+    );
+    complain(beside, text::part(&words, 0, at));
+    let mut word = [0u8; ROOM];
+    let end = quoting::put_word(&mut word, 0, beside);
+    io::write_all(
+        STDERR_FILENO,
+        b"  if no other run is at work, remove it and run the command again: rm ",
+    );
+    io::write_all(STDERR_FILENO, text::part(&word, 0, end));
+    io::write_all(STDERR_FILENO, b"\n");
+}
+
+// Makes the new file beside a path and answers its descriptor, or -1: then trouble is told.
+pub fn lock(path: &[u8], beside: &[u8]) -> i32 {
     if beside.len() == 0 {
+        return -1;
+    }
+    if !is_destination(path, attributes::of(path)) {
         return -1;
     }
     let fd = os::create(beside);
     if 0 <= fd {
         return fd;
     }
-    if os::errno() != libc::EEXIST {
-        os::fail(beside);
+    if os::errno() == libc::EEXIST {
+        tell_lock(beside);
         return -1;
     }
-    complain(
-        beside,
-        b"this file is there already: another run is at work, or one was cut off
-the file that it was to replace is whole; if no other run is at work, remove this one and run the command again",
-    );
+    fail(beside);
     -1
 }
 
 // Takes the new file away again and leaves the old one as it is.
 pub fn discard(beside: &[u8]) {
     if os::unlink(beside) != 0 {
-        os::fail(beside);
+        trouble(beside, b"it could not be taken away");
     }
 }
 
@@ -46,73 +150,107 @@ pub fn release(fd: i32, beside: &[u8]) {
     discard(beside);
 }
 
-fn write_through(fd: i32, bytes: &[u8]) -> bool {
-    if !io::write_all(fd, bytes) {
+// Gives the new file owner, group and permissions of the file at `path`, as far as the system allows: first its owner, whom
+// the permissions are for. False where it cannot be known what they are; that is told.
+pub fn dress(fd: i32, path: &[u8]) -> bool {
+    let file = attributes::of(path);
+    if !file.is_known {
+        fail(path);
         return false;
     }
-    libc::fsync(fd) == 0
+    if !file.is_there {
+        return true;
+    }
+    if libc::fchown(fd, file.owner, file.group) != 0 {
+        libc::fchown(fd, AS_IT_IS, file.group);
+    }
+    libc::fchmod(fd, attributes::permissions(file));
+    true
 }
 
-// Writes the new file and brings it to the disk. Where that fails it is taken away.
-pub fn save(fd: i32, beside: &[u8], bytes: &[u8]) -> bool {
-    if !write_through(fd, bytes) {
-        os::fail(beside);
+// Brings the new file to the disk and closes it. Where that fails it is taken away.
+pub fn finish(fd: i32, beside: &[u8]) -> bool {
+    if libc::fsync(fd) != 0 {
+        fail(beside);
         release(fd, beside);
         return false;
     }
     if libc::close(fd) != 0 {
-        os::fail(beside);
+        fail(beside);
         discard(beside);
         return false;
     }
     true
 }
 
-// Puts the new file in the place of the old one. Where that fails the old file is as it was.
-pub fn install(path: &[u8], beside: &[u8]) -> bool {
+// Writes the new file, in the dress of the old one, and brings it to the disk. Where that fails it is taken away.
+pub fn save(fd: i32, path: &[u8], beside: &[u8], bytes: &[u8]) -> bool {
+    if !dress(fd, path) {
+        release(fd, beside);
+        return false;
+    }
+    if !io::write_all(fd, bytes) {
+        fail(beside);
+        release(fd, beside);
+        return false;
+    }
+    finish(fd, beside)
+}
+
+// Puts the new file in the place of the old one. Trouble is told behind what has moved before.
+pub fn install(path: &[u8], beside: &[u8], moved: &[u8]) -> Installed {
     if os::rename(beside, path) != 0 {
-        os::fail(path);
+        io::write_all(STDERR_FILENO, moved);
+        trouble(
+            path,
+            b"it is as it was, run the command again: the new one could not take its place",
+        );
         discard(beside);
-        return false;
+        return Installed::Failed;
     }
-    sync_folder(path)
+    if sync_folder(path) {
+        return Installed::Done;
+    }
+    trouble(
+        path,
+        b"it did move, but its folder could not be brought to the disk",
+    );
+    Installed::Unsynced
 }
 
-// Replaces a file by these bytes.
-pub fn replace(path: &[u8], bytes: &[u8]) -> bool {
+fn replace_real(path: &[u8], bytes: &[u8]) -> Installed {
     let mut name = io::buffer();
-    let end = beside(path, &mut name);
+    let end = names::beside(path, &mut name);
     let beside = text::part(&name, 0, end);
-    let fd = lock(beside);
+    let fd = lock(path, beside);
     if fd < 0 {
-        return false;
+        return Installed::Failed;
     }
-    if !save(fd, beside, bytes) {
-        return false;
+    if !save(fd, path, beside, bytes) {
+        return Installed::Failed;
     }
-    install(path, beside)
+    install(path, beside, b"")
 }
 
-fn sync(folder: &[u8]) -> bool {
-    let fd = os::open_read(folder);
-    if fd < 0 {
-        os::fail(folder);
-        return false;
-    }
-    if libc::fsync(fd) != 0 {
-        os::fail(folder);
-        libc::close(fd);
-        return false;
-    }
-    libc::close(fd);
-    true
-}
-
-// Brings the folder's entry of a file to the disk.
-pub fn sync_folder(path: &[u8]) -> bool {
-    let end = text::behind_last(path, b'/');
+// Replaces the file that a path leads to by these bytes.
+pub fn replace(path: &[u8], bytes: &[u8]) -> Installed {
+    let mut real = io::buffer();
+    let end = names::follow(path, &mut real);
     if end == 0 {
-        return sync(b".");
+        return Installed::Failed;
     }
-    sync(text::part(path, 0, end))
+    replace_real(text::part(&real, 0, end), bytes)
+}
+
+// Brings the folder's entry of a file to the disk. Where that fails errno says why.
+pub fn sync_folder(path: &[u8]) -> bool {
+    let mut folder = io::buffer();
+    let end = names::put_folder(&mut folder, path);
+    let fd = os::open_read(text::part(&folder, 0, end));
+    if fd < 0 {
+        return false;
+    }
+    let is_there = libc::fsync(fd) == 0;
+    libc::close(fd);
+    is_there
 }
