@@ -1,37 +1,21 @@
-// The commands of the program, and what it says of itself, one text a command.
+// What the program says of itself: one text a command, behind its usage lines from the table of commands.
+use commands::ANNOUNCE;
+use commands::AUDIT;
+use commands::CALENDAR;
+use commands::CHECK;
+use commands::NAME;
+use commands::PICTURE;
+use commands::PREVIEW;
+use commands::REPLAY;
+use commands::ROWS;
+use commands::SESSION;
+use commands::SHOW;
+use commands::START;
+use commands::UNDO;
+use commands::WHY;
 
-// The commands by number.
-pub const START: u32 = 0;
-
-pub const SESSION: u32 = 1;
-
-pub const ANNOUNCE: u32 = 2;
-
-pub const CALENDAR: u32 = 3;
-
-pub const CHECK: u32 = 4;
-
-pub const PREVIEW: u32 = 5;
-
-pub const ROWS: u32 = 6;
-
-pub const SHOW: u32 = 7;
-
-pub const PICTURE: u32 = 8;
-
-pub const NAME: u32 = 9;
-
-pub const WHY: u32 = 10;
-
-pub const REPLAY: u32 = 11;
-
-pub const AUDIT: u32 = 12;
-
-pub const COMMANDS: u32 = 13;
-
-// Their names in this order, nine bytes each with the blanks behind them.
-pub const NAMES: [u8; 117] =
-    *b"start    session  announce calendar check    preview  rows     show     picture  name     why      replay   audit    ";
+// The program's version; tests/install.sh compares it with those of the library and its bindings.
+const VERSION: [u8; 5] = *b"0.1.0";
 
 fn overview(fd: i32) -> bool {
     io::write_all(
@@ -51,11 +35,14 @@ fn overview(fd: i32) -> bool {
   why CALENDAR REGISTER NAME | MONTH PRICE  why a series is listed, or why it is not
   replay CALENDAR JOURNAL REGISTER          make a register again from its journal
   audit CALENDAR JOURNAL REGISTER           whether a register is exactly what its journal gives
+  undo CALENDAR REGISTER JOURNAL            take the last accepted call back
 
-start, session and announce keep the call in a journal with --journal FILE at their end.
+Options stand anywhere. start, session and announce keep the call in a journal with --journal FILE;
+start and session take a doubtful close with --yes, replay replaces a register that runs with --force.
+A dash in place of a list or a journal that is only read is standard input, in place of a picture standard output.
 Days are written 2026-11-16, months 2026-12, or as their numbers; closes 2413.37, or in hundredths.
 Exit status: 0 done, 1 refused by a cause, 2 bad use or trouble with a file.
-sindhopul COMMAND --help says more of a command.
+sindhopul help COMMAND says more of a command, sindhopul --version which version this is.
 ",
     )
 }
@@ -63,12 +50,12 @@ sindhopul COMMAND --help says more of a command.
 fn start(fd: i32) -> bool {
     io::write_all(
         fd,
-        b"sindhopul start CALENDAR REGISTER DAY CLOSE [--journal FILE]
-
+        b"
 Lists the six live months of DAY, a session day, around CLOSE, the close before it.
   CALENDAR   the session calendar, made by sindhopul calendar
   REGISTER   empty, or missing: then it is made
-  FILE       gets a line for the call and its answer, which replay and audit read
+  FILE       gets a line for the call and its answer, which replay and audit read; start makes it where it is missing
+  --yes      takes a close without a point, as 241337
 ",
     )
 }
@@ -76,13 +63,13 @@ Lists the six live months of DAY, a session day, around CLOSE, the close before 
 fn session(fd: i32) -> bool {
     io::write_all(
         fd,
-        b"sindhopul session CALENDAR REGISTER DAY CLOSE [--journal FILE]
-
+        b"
 Moves the register to DAY, the next session day, with CLOSE, the close before it: drops the month that expired,
 widens each ladder to take in what the close requires and what was announced, and says what was added and removed.
   REGISTER   replaced whole, never half written; while a run is at work, REGISTER.new is there
   FILE       gets a line for the call and its answer, refused or not, which replay and audit read
-sindhopul preview answers the same and changes no file.
+  --yes      takes a close outside the ladder of the nearest month, or one without a point, as 241337
+sindhopul preview answers the same and changes no file; sindhopul undo takes the call back.
 ",
     )
 }
@@ -90,8 +77,7 @@ sindhopul preview answers the same and changes no file.
 fn announce(fd: i32) -> bool {
     io::write_all(
         fd,
-        b"sindhopul announce CALENDAR REGISTER MONTH PRICE [--journal FILE]
-
+        b"
 Takes in a strike that the exchange announced for MONTH; the next session lists it, and every strike up to it.
   REGISTER   replaced whole, never half written; while a run is at work, REGISTER.new is there
   FILE       gets a line for the call and its answer, refused or not, which replay and audit read
@@ -102,11 +88,10 @@ Takes in a strike that the exchange announced for MONTH; the next session lists 
 fn calendar(fd: i32) -> bool {
     io::write_all(
         fd,
-        b"sindhopul calendar LIST FILE
-
+        b"
 Makes a session calendar, 4,566 bytes: every weekday from 2000-01-01 to 2099-12-31 has a session but those of the list.
   LIST   one date a line: 2026-12-25 has no session; +2026-01-10 is an extra session on a Saturday or Sunday;
-         # starts a comment
+         # starts a comment; - is standard input
   FILE   replaced whole
 The first line that cannot be taken is told, and nothing is written.
 ",
@@ -116,8 +101,7 @@ The first line that cannot be taken is told, and nothing is written.
 fn check(fd: i32) -> bool {
     io::write_all(
         fd,
-        b"sindhopul check CALENDAR
-
+        b"
 Says whether the calendar is accepted: 4,566 bytes, no bit set after 2099-12-31, and in every month a session from
 its first day to its third Friday.
 ",
@@ -127,8 +111,7 @@ its first day to its third Friday.
 fn preview(fd: i32) -> bool {
     io::write_all(
         fd,
-        b"sindhopul preview CALENDAR REGISTER DAY CLOSE
-
+        b"
 What session would answer, with every row that it would add and what brings it in. No file is changed.
 ",
     )
@@ -137,8 +120,7 @@ What session would answer, with every row that it would add and what brings it i
 fn rows(fd: i32) -> bool {
     io::write_all(
         fd,
-        b"sindhopul rows CALENDAR REGISTER [MONTH]
-
+        b"
 Each listed strike of MONTH, or of all six live months: price, first day, names of call and put, origin.
 ",
     )
@@ -147,8 +129,7 @@ Each listed strike of MONTH, or of all six live months: price, first day, names 
 fn show(fd: i32) -> bool {
     io::write_all(
         fd,
-        b"sindhopul show CALENDAR REGISTER
-
+        b"
 The six ladders: month, tier, expiry, span, rows, rows that are new today; and the announcements that wait.
 ",
     )
@@ -157,9 +138,9 @@ The six ladders: month, tier, expiry, span, rows, rows that are new today; and t
 fn picture(fd: i32) -> bool {
     io::write_all(
         fd,
-        b"sindhopul picture CALENDAR REGISTER FILE
-
+        b"
 Draws the six ladders into FILE as SVG: strikes against months, coloured by origin, today's rows marked.
+  FILE   replaced whole; - is standard output
 ",
     )
 }
@@ -167,9 +148,7 @@ Draws the six ladders into FILE as SVG: strikes against months, coloured by orig
 fn name(fd: i32) -> bool {
     io::write_all(
         fd,
-        b"sindhopul name NAME
-sindhopul name MONTH call|put PRICE
-
+        b"
 Reads the name of a series, as OW20L262400, or writes it.
 ",
     )
@@ -178,9 +157,7 @@ Reads the name of a series, as OW20L262400, or writes it.
 fn why(fd: i32) -> bool {
     io::write_all(
         fd,
-        b"sindhopul why CALENDAR REGISTER NAME
-sindhopul why CALENDAR REGISTER MONTH PRICE
-
+        b"
 Since when the series is listed and what brought it in; or why it is not listed, and which close or announcement
 would bring it in.
 ",
@@ -190,10 +167,11 @@ would bring it in.
 fn replay(fd: i32) -> bool {
     io::write_all(
         fd,
-        b"sindhopul replay CALENDAR JOURNAL REGISTER
-
+        b"
 Runs the calls of the journal from an empty register and writes REGISTER, replaced whole. Where a call answers
 another number than the journal tells, says which, and writes nothing.
+  JOURNAL   - is standard input
+  --force   replaces a register that runs, or moves it back in time
 ",
     )
 }
@@ -201,10 +179,21 @@ another number than the journal tells, says which, and writes nothing.
 fn audit(fd: i32) -> bool {
     io::write_all(
         fd,
-        b"sindhopul audit CALENDAR JOURNAL REGISTER
-
+        b"
 Says whether the register is exactly what the calls of the journal give, and if not the first thing that differs.
 Exit status 1 where they differ.
+  JOURNAL   - is standard input
+",
+    )
+}
+
+fn undo(fd: i32) -> bool {
+    io::write_all(
+        fd,
+        b"
+Takes the last accepted call back: the register is made again from the calls before it. The line of the call stays in
+the journal as a comment.
+  REGISTER   replaced whole, never half written; while a run is at work, REGISTER.new is there
 ",
     )
 }
@@ -230,12 +219,18 @@ fn write_more(fd: i32, command: u32) -> bool {
         WHY => why(fd),
         REPLAY => replay(fd),
         AUDIT => audit(fd),
+        UNDO => undo(fd),
         _ => overview(fd),
     }
 }
 
-// Says how a command is used, or how the program is where there is no such command.
-pub fn say(fd: i32, command: u32, status: i32) -> i32 {
-    write_text(fd, command);
-    status
+// Says how a command is used, or how the program is where there is no such command; false where that cannot be written.
+pub fn tell(fd: i32, command: u32) -> bool {
+    let mut out = io::buffer();
+    let end = commands::put_usage(&mut out, 0, command, b"");
+    io::write_all(fd, text::part(&out, 0, end)) && write_text(fd, command)
+}
+
+pub fn tell_version(fd: i32) -> bool {
+    io::write_all(fd, b"sindhopul ") && io::write_all(fd, &VERSION) && io::write_all(fd, b"\n")
 }

@@ -4,11 +4,13 @@
 // byte goes. Where the buffer is full the rest is left out, so that the answer is its length.
 mod read;
 mod search;
+mod styles;
 mod write;
 
 pub use read::END_YEAR;
 pub use read::Parsed;
 pub use read::read_close;
+pub use read::read_comma_close;
 pub use read::read_day;
 pub use read::read_month;
 pub use read::read_number;
@@ -19,6 +21,8 @@ pub use search::part;
 pub use search::same;
 pub use search::word_end;
 pub use search::word_start;
+pub use styles::read_styled_day;
+pub use styles::read_styled_month;
 pub use write::column;
 pub use write::date;
 pub use write::month;

@@ -47,7 +47,7 @@ pub fn read_number(text: &[u8]) -> Parsed {
 }
 
 // The month of a year and of its month from 1 to 12.
-fn month_of(year: u32, month: u32) -> Parsed {
+pub fn month_of(year: u32, month: u32) -> Parsed {
     if year < FIRST_YEAR {
         return Parsed::Bad;
     }
@@ -89,7 +89,7 @@ pub fn read_month(text: &[u8]) -> Parsed {
 }
 
 // The day of a month, counted from 1.
-fn day_of(month: u32, day: u32) -> Parsed {
+pub fn day_of(month: u32, day: u32) -> Parsed {
     if day < 1 {
         return Parsed::Bad;
     }
@@ -148,16 +148,16 @@ fn read_hundredths(text: &[u8]) -> Parsed {
     Parsed::Number(10 * n)
 }
 
-// A close as 2413.37, or in hundredths.
-pub fn read_close(text: &[u8]) -> Parsed {
-    let point = find(text, 0, b'.');
-    if text.len() <= point {
-        return read_number(text);
+// A close in points, with this mark before the hundredths.
+fn read_points(text: &[u8], mark: u8) -> Parsed {
+    let at = find(text, 0, mark);
+    if text.len() <= at {
+        return Parsed::Bad;
     }
-    let Parsed::Number(whole) = read_number(part(text, 0, point)) else {
+    let Parsed::Number(whole) = read_number(part(text, 0, at)) else {
         return Parsed::Bad;
     };
-    let Parsed::Number(hundredths) = read_hundredths(part(text, point + 1, text.len())) else {
+    let Parsed::Number(hundredths) = read_hundredths(part(text, at + 1, text.len())) else {
         return Parsed::Bad;
     };
     if 10000000 <= whole {
@@ -167,4 +167,17 @@ pub fn read_close(text: &[u8]) -> Parsed {
         return Parsed::Bad;
     }
     Parsed::Number(100 * whole + hundredths)
+}
+
+// A close as 2413.37, or in hundredths.
+pub fn read_close(text: &[u8]) -> Parsed {
+    if find(text, 0, b'.') < text.len() {
+        return read_points(text, b'.');
+    }
+    read_number(text)
+}
+
+// A close as 2413,37, which is not taken: a message shows how to write it.
+pub fn read_comma_close(text: &[u8]) -> Parsed {
+    read_points(text, b',')
 }

@@ -1,15 +1,14 @@
--- `terminal::arguments::place_of` is safe and ends. Assumes nothing.
+-- `commands::words::place_of` is safe and ends. Assumes nothing.
 use Prim.Native.Nat.{_≤_, _-_}
 use borrow.Author.Needs.{needs}
-use Rattle.terminal.proofs.arguments.place_of.Statement.{statement}
-use Rattle.terminal.proofs.arguments.place_of.Tie as tie
+use Rattle.commands.proofs.words.place_of.Statement.{statement}
+use Rattle.commands.proofs.words.place_of.Tie as tie
 
 abbrev Inv-loop : tie.InvT-loop
-Inv-loop list word place₀ place = 0 ≤ place
+Inv-loop option n at₀ at = 0 ≤ at
 
--- a place is a u32, however many commands there are
 abbrev μ-loop : tie.MeasureT-loop
-μ-loop list word place₀ place = 4294967296 - place
+μ-loop option n at₀ at = n - at
 
 pub place-of-spec : {M : Type 1} → statement M
 place-of-spec =
@@ -17,8 +16,8 @@ place-of-spec =
     (tie.spec
     Inv-loop
     μ-loop
-    (λ c. search needs)
     (λ c κs. search needs)
+    (λ c. search needs)
     (λ c κs. search needs)
     (λ c. search needs)
     (λ c. search needs)
