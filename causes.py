@@ -499,12 +499,45 @@ def rattle_causes(table: Table, _: str) -> str:
     return "\n".join(lines) + "\n"
 
 
+def rattle_words(table: Table, _: str) -> str:
+    """The words of all causes, a line each: 0 on the first, the lowest cause on the second, on the last what is none."""
+    words = {cause.number: cause.words for cause in table.causes}
+    first, last = min(words), max(words)
+    none = "no cause that there is"
+    texts = ["accepted", *(words.get(number, none) for number in range(first, last + 1)), none]
+    return f"""\
+// Each cause in words. {MADE}
+
+// The line of a number: the lowest cause stands on the second line, what is none on the last.
+fn line_of(number: u32) -> u32 {{
+    if number == 0 {{
+        return 1;
+    }}
+    if {first} <= number {{
+        if number <= {last} {{
+            return number - {first - 2};
+        }}
+    }}
+    {len(texts)}
+}}
+
+pub fn in_words(out: &mut [u8], at: usize, number: u32) -> usize {{
+    let words = lines::line(
+        b"{chr(10).join(texts)}",
+        line_of(number),
+    );
+    text::put(out, at, words)
+}}
+"""
+
+
 FILES: Dict[str, Callable[[Table, str], str]] = {
     "include/sindhopul.h": header,
     "bindings/rust/src/refusal.rs": rust_refusal,
     "bindings/python/sindhopul/refusals.py": python_refusals,
     "bindings/python/sindhopul/__init__.py": python_exports,
     "crates/base/src/causes.rt": rattle_causes,
+    "crates/matching/src/cause.rt": rattle_words,
     "tests/host/tests/archives/run/calls.rs": host_calls,
     "independent/src/numbers.rs": independent_numbers,
 }

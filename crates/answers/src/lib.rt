@@ -1,12 +1,14 @@
 // Commands that ask a register, a calendar or a name and answer: check, rows, show, picture, name, why; and the calendar made
 // from its list.
 use base::causes;
+use commands::PICTURE;
+use commands::ROWS;
+use commands::SHOW;
 use dates::DAYS;
+use files::Installed;
 use files::Loaded;
-use help::PICTURE;
-use help::ROWS;
-use help::SHOW;
 use holidays::Made;
+use holidays::Reason;
 use libc::STDERR_FILENO;
 use libc::STDOUT_FILENO;
 use names::Series;
@@ -40,10 +42,21 @@ fn check_bytes(calendar: &[u8]) -> i32 {
         );
         return say(STDERR_FILENO, &out, end, REFUSED);
     }
+    let end = put_sessions(&mut out, calendar);
+    say(STDOUT_FILENO, &out, end, DONE)
+}
+
+// That a calendar is accepted, and how many sessions it has.
+fn put_sessions(out: &mut [u8], calendar: &[u8]) -> usize {
     let sessions = count_sessions(calendar);
     let form = b"the calendar is accepted: %n sessions from 2000-01-01 to 2099-12-31\n";
-    let end = phrases::fill(&mut out, 0, form, [sessions, 0, 0, 0, 0, 0]);
-    say(STDOUT_FILENO, &out, end, DONE)
+    phrases::fill(out, 0, form, [sessions, 0, 0, 0, 0, 0])
+}
+
+fn tell_sessions(calendar: &[u8]) -> i32 {
+    let mut out = [0u8; 128];
+    let end = put_sessions(&mut out, calendar);
+    terminal::tell(&out, end, b"the calendar")
 }
 
 pub fn check() -> i32 {
@@ -54,19 +67,46 @@ pub fn check() -> i32 {
     check_bytes(text::part(&space, 0, n))
 }
 
-// Makes the calendar of a list and writes it.
+fn complain_list(what: &[u8]) {
+    let mut path = io::buffer();
+    let n = commands::word(2, &mut path);
+    files::complain(text::part(&path, 0, n), what);
+}
+
+fn complain_line(list: &[u8], line: u32, reason: Reason) {
+    let mut out = io::buffer();
+    let end = holidays::complaint(&mut out, 0, list, line, reason);
+    complain_list(text::part(&out, 0, end));
+}
+
+// Whether a calendar is that of an empty list, as of one that was lost on its way.
+fn lists_nothing(calendar: &[u8]) -> bool {
+    let mut plain = space::calendar();
+    holidays::make(b"", &mut plain);
+    text::same(calendar, &plain)
+}
+
+// Makes the calendar of a list and, where it passes its check, writes it.
 fn make_of(list: &[u8]) -> i32 {
     let mut calendar = space::calendar();
     let made = holidays::make(list, &mut calendar);
     if let Made::Refused(line, reason) = made {
-        let mut out = io::buffer();
-        let end = holidays::complaint(&mut out, 0, list, line, reason);
-        return say(STDERR_FILENO, &out, end, TROUBLE);
-    }
-    if !terminal::replace(3, &calendar) {
+        complain_line(list, line, reason);
         return TROUBLE;
     }
-    check_bytes(&calendar)
+    if lists_nothing(&calendar) {
+        complain_list(b"it lists no day: it is no list of days");
+        return TROUBLE;
+    }
+    let checked = passing::check(&calendar);
+    if checked.number != 0 {
+        return check_bytes(&calendar);
+    }
+    let installed = terminal::replace(3, &calendar);
+    match installed {
+        Installed::Done => tell_sessions(&calendar),
+        _ => TROUBLE,
+    }
 }
 
 pub fn make_calendar() -> i32 {
@@ -89,7 +129,7 @@ fn rows_of_all(out: &mut [u8], calendar: &[u8], register: &[u8]) -> usize {
 
 fn rows(calendar: &[u8], register: &[u8]) -> i32 {
     let mut out = space::output();
-    if os::arg_count() == 4 {
+    if commands::count() == 4 {
         let end = rows_of_all(&mut out, calendar, register);
         return say(STDOUT_FILENO, &out, end, DONE);
     }
@@ -103,13 +143,23 @@ fn rows(calendar: &[u8], register: &[u8]) -> i32 {
     say(STDOUT_FILENO, &out, end, DONE)
 }
 
+fn is_stream(i: usize) -> bool {
+    let mut space = io::buffer();
+    let n = commands::word(i, &mut space);
+    text::same(text::part(&space, 0, n), b"-")
+}
+
 fn draw(calendar: &[u8], register: &[u8]) -> i32 {
     let mut out = space::output();
     let end = picture::svg(&mut out, 0, calendar, register);
-    if terminal::replace(4, text::part(&out, 0, end)) {
-        return DONE;
+    if is_stream(4) {
+        return say(STDOUT_FILENO, &out, end, DONE);
     }
-    TROUBLE
+    let installed = terminal::replace(4, text::part(&out, 0, end));
+    match installed {
+        Installed::Done => DONE,
+        _ => TROUBLE,
+    }
 }
 
 fn refuse_name(number: u16, place: u16) -> i32 {
@@ -120,8 +170,8 @@ fn refuse_name(number: u16, place: u16) -> i32 {
 
 fn series_of(i: usize) -> Series {
     let mut space = io::buffer();
-    let n = os::arg(i, &mut space);
-    names::read(&space[..n])
+    let n = commands::word(i, &mut space);
+    names::read(text::part(&space, 0, n))
 }
 
 fn explain(calendar: &[u8], register: &[u8], month: u32, price: u32) -> i32 {
@@ -131,7 +181,7 @@ fn explain(calendar: &[u8], register: &[u8], month: u32, price: u32) -> i32 {
 }
 
 fn why(calendar: &[u8], register: &[u8]) -> i32 {
-    if os::arg_count() == 5 {
+    if commands::count() == 5 {
         let series = series_of(4);
         if series.number != 0 {
             return refuse_name(series.number, series.month);
@@ -186,14 +236,15 @@ fn read_name() -> i32 {
 // 0 for a call, 1 for a put.
 fn kind_of(i: usize) -> Parsed {
     let mut space = io::buffer();
-    let n = os::arg(i, &mut space);
-    if text::same(&space[..n], b"call") {
+    let n = commands::word(i, &mut space);
+    let word = text::part(&space, 0, n);
+    if text::same(word, b"call") {
         return Parsed::Number(0);
     }
-    if text::same(&space[..n], b"put") {
+    if text::same(word, b"put") {
         return Parsed::Number(1);
     }
-    files::complain(&space[..n], b"is neither call nor put");
+    files::complain(word, b"is neither call nor put");
     Parsed::Bad
 }
 
@@ -210,7 +261,7 @@ fn write_name(month: u32, kind: u32, price: u32) -> i32 {
 }
 
 pub fn name() -> i32 {
-    if os::arg_count() == 3 {
+    if commands::count() == 3 {
         return read_name();
     }
     let Parsed::Number(month) = terminal::number(2, terminal::MONTH) else {

@@ -1,15 +1,17 @@
 // start, session, announce and preview: the register's calls over files. A call is a kind and its pairs, as in a journal: day and
 // close, or month and price.
-mod entries;
-
+use base::causes;
 use calls::ANNOUNCE;
 use calls::Answer;
 use calls::Called;
 use calls::SESSION;
 use calls::START;
-use entries::record;
+use commands::JOURNAL;
+use commands::YES;
+use files::Installed;
 use files::Loaded;
 use libc::STDOUT_FILENO;
+use recording::Kept;
 use report::Totals;
 use terminal::DONE;
 use terminal::TROUBLE;
@@ -42,6 +44,14 @@ fn totals_of(answer: Answer) -> Totals {
     }
 }
 
+// What has moved with an accepted call.
+fn tell_moved(out: &[u8], end: usize) -> i32 {
+    if commands::has(JOURNAL) {
+        return terminal::tell(out, end, b"register and journal");
+    }
+    terminal::tell(out, end, b"the register")
+}
+
 // What an accepted call did.
 fn tell(
     kind: u8,
@@ -52,52 +62,104 @@ fn tell(
     after: &[u8],
 ) -> i32 {
     let mut out = io::buffer();
+    let pair = first(pairs);
     if kind == ANNOUNCE {
-        let pair = first(pairs);
         let waiting = answer.first as u32;
-        let end = report::announced(&mut out, 0, calendar, after, pair[0], pair[1], waiting);
-        return say(STDOUT_FILENO, &out, end, DONE);
+        let end = report::announced(&mut out, 0, calendar, before, pair[0], pair[1], waiting);
+        return tell_moved(&out, end);
     }
-    let end = report::changes(&mut out, 0, calendar, before, after, totals_of(answer));
-    say(STDOUT_FILENO, &out, end, DONE)
+    let end = report::changes(
+        &mut out,
+        0,
+        calendar,
+        before,
+        after,
+        totals_of(answer),
+        pair[1],
+    );
+    tell_moved(&out, end)
 }
 
 // Only a start may do without a register file: there is none before the first.
 fn load_register(kind: u8, path: &[u8], register: &mut [u8]) -> bool {
     let loaded = files::load(path, register);
-    if kind == START {
-        if let Loaded::Missing = loaded {
+    if let Loaded::Missing = loaded {
+        if kind == START {
             return true;
         }
+        files::complain(
+            path,
+            b"there is no such register: look at the name
+  a lost one is made again by its journal: sindhopul replay CALENDAR JOURNAL REGISTER",
+        );
+        return false;
     }
     terminal::is_whole(path, register, loaded)
 }
 
-// Keeps and carries out an accepted call. The journal has its line before the register has the call: a run that is cut off
-// between leaves a line that the same command, run again, finds there.
+// A close that was written without a point is asked about: it is in hundredths.
+fn ask_point(close: u32) {
+    let mut word = io::buffer();
+    let n = commands::word(5, &mut word);
+    let mut out = [0u8; 160];
+    let end = phrases::fill(
+        &mut out,
+        0,
+        b"has no point and was read as %c\n  if that is the close, write %c, or add --yes",
+        [close, close, 0, 0, 0, 0],
+    );
+    files::complain(text::part(&word, 0, n), text::part(&out, 0, end));
+}
+
+// A close outside the nearest month's ladder is asked about.
+fn ask_far(close: u32, added: u16, before: &[u8], after: &[u8]) {
+    let mut out = io::buffer();
+    let end = report::far(&mut out, 0, before, after, close, added as u32);
+    files::complain(b"the close", text::part(&out, 0, end));
+}
+
+// Whether a start or a session asks for a yes before it is carried out: then that is told.
+fn asks(kind: u8, close: u32, added: u16, before: &[u8], after: &[u8]) -> bool {
+    if kind == ANNOUNCE || commands::has(YES) {
+        return false;
+    }
+    if report::is_far(before, after, close) {
+        ask_far(close, added, before, after);
+        return true;
+    }
+    if terminal::has_point(5) {
+        return false;
+    }
+    ask_point(close);
+    true
+}
+
+// Keeps an accepted call and puts its register in place. The journal has the line before the register has the call: a run
+// that is cut off between leaves a line that the same command, run again, finds there.
 fn carry_out(
     fd: i32,
+    kept: Kept,
     kind: u8,
     pairs: &[[u32; 2]],
     answer: Answer,
     path: &[u8],
     beside: &[u8],
-    before: &[u8],
     after: &[u8],
-) -> bool {
-    if !files::save(fd, beside, after) {
-        return false;
+) -> Installed {
+    if !files::save(fd, path, beside, after) {
+        return Installed::Failed;
     }
-    if !record(before, kind, pairs, answer) {
+    if !recording::record(kept, kind, pairs, answer) {
         files::discard(beside);
-        return false;
+        return Installed::Failed;
     }
-    files::install(path, beside)
+    files::install(path, beside, b"")
 }
 
 // Keeps a refused call, gives the lock back and tells the refusal.
 fn turn_down(
     fd: i32,
+    kept: Kept,
     kind: u8,
     pairs: &[[u32; 2]],
     answer: Answer,
@@ -105,7 +167,7 @@ fn turn_down(
     calendar: &[u8],
     register: &[u8],
 ) -> i32 {
-    let is_kept = record(register, kind, pairs, answer);
+    let is_kept = recording::record(kept, kind, pairs, answer);
     files::release(fd, beside);
     if is_kept {
         let pair = first(pairs);
@@ -121,7 +183,77 @@ fn turn_down(
     TROUBLE
 }
 
-// The call on the register that this run has locked.
+// Whether the journal has the call from before: then it was asked about.
+fn is_kept(kept: Kept) -> bool {
+    if let Kept::Already = kept {
+        return true;
+    }
+    false
+}
+
+// An accepted call: asked about where it may be a slip, carried out, told.
+fn accept(
+    fd: i32,
+    kept: Kept,
+    kind: u8,
+    pairs: &[[u32; 2]],
+    answer: Answer,
+    calendar: &[u8],
+    path: &[u8],
+    beside: &[u8],
+    before: &[u8],
+    after: &[u8],
+) -> i32 {
+    let pair = first(pairs);
+    if !is_kept(kept) && asks(kind, pair[1], answer.first, before, after) {
+        files::release(fd, beside);
+        return TROUBLE;
+    }
+    let installed = carry_out(fd, kept, kind, pairs, answer, path, beside, after);
+    match installed {
+        Installed::Done => tell(kind, pairs, answer, calendar, before, after),
+        Installed::Unsynced => TROUBLE,
+        Installed::Failed => TROUBLE,
+    }
+}
+
+// A call that was answered: kept in the journal, if one is asked for and belongs to the register.
+fn settle(
+    fd: i32,
+    kind: u8,
+    pairs: &[[u32; 2]],
+    answer: Answer,
+    calendar: &[u8],
+    path: &[u8],
+    beside: &[u8],
+    before: &[u8],
+    after: &[u8],
+    room: &mut [u8],
+) -> i32 {
+    let kept = recording::look(calendar, before, kind, pairs, answer.number, room);
+    if let Kept::Bad = kept {
+        files::release(fd, beside);
+        return TROUBLE;
+    }
+    if answer.number != 0 {
+        return turn_down(fd, kept, kind, pairs, answer, beside, calendar, before);
+    }
+    accept(
+        fd,
+        kept,
+        kind,
+        pairs,
+        answer,
+        calendar,
+        path,
+        beside,
+        before,
+        after,
+    )
+}
+
+// The call on the register that this run has locked. A calendar or a register that cannot be used says nothing of the call,
+// so that it is refused and not kept.
 fn call_locked(
     fd: i32,
     kind: u8,
@@ -129,6 +261,7 @@ fn call_locked(
     calendar: &[u8],
     path: &[u8],
     beside: &[u8],
+    room: &mut [u8],
 ) -> i32 {
     let mut register = space::register();
     if !load_register(kind, path, &mut register) {
@@ -141,24 +274,47 @@ fn call_locked(
         files::release(fd, beside);
         return not_called();
     };
-    if answer.number != 0 {
-        return turn_down(fd, kind, pairs, answer, beside, calendar, &before);
+    if 0 < answer.number && answer.number <= causes::REGISTER_FORM {
+        return turn_down(
+            fd,
+            Kept::Unasked,
+            kind,
+            pairs,
+            answer,
+            beside,
+            calendar,
+            &before,
+        );
     }
-    if carry_out(fd, kind, pairs, answer, path, beside, &before, &register) {
-        return tell(kind, pairs, answer, calendar, &before, &register);
-    }
-    TROUBLE
+    settle(
+        fd,
+        kind,
+        pairs,
+        answer,
+        calendar,
+        path,
+        beside,
+        &before,
+        &register,
+        room,
+    )
 }
 
-fn lock_and_call(kind: u8, pairs: &[[u32; 2]], calendar: &[u8], path: &[u8]) -> i32 {
+fn lock_and_call(
+    kind: u8,
+    pairs: &[[u32; 2]],
+    calendar: &[u8],
+    path: &[u8],
+    room: &mut [u8],
+) -> i32 {
     let mut name = io::buffer();
     let end = files::beside(path, &mut name);
     let beside = text::part(&name, 0, end);
-    let fd = files::lock(beside);
+    let fd = files::lock(path, beside);
     if fd < 0 {
         return TROUBLE;
     }
-    call_locked(fd, kind, pairs, calendar, path, beside)
+    call_locked(fd, kind, pairs, calendar, path, beside, room)
 }
 
 // The day or month of a call.
@@ -177,7 +333,8 @@ fn level_of(kind: u8) -> Parsed {
     terminal::number(5, terminal::CLOSE)
 }
 
-pub fn make(kind: u8, calendar: &[u8]) -> i32 {
+// `room` is for the text of a journal.
+pub fn make(kind: u8, calendar: &[u8], room: &mut [u8]) -> i32 {
     let Parsed::Number(x) = time_of(kind) else {
         return TROUBLE;
     };
@@ -185,9 +342,28 @@ pub fn make(kind: u8, calendar: &[u8]) -> i32 {
         return TROUBLE;
     };
     let mut path = io::buffer();
-    let n = os::arg(3, &mut path);
+    let end = terminal::followed(3, &mut path);
+    if end == 0 {
+        return TROUBLE;
+    }
     let pairs = [[x, y]];
-    lock_and_call(kind, &pairs, calendar, &path[..n])
+    lock_and_call(kind, &pairs, calendar, text::part(&path, 0, end), room)
+}
+
+// Whether a close may be a slip: outside the nearest month's ladder, or written without a point.
+fn may_slip(close: u32, before: &[u8], after: &[u8]) -> bool {
+    !terminal::has_point(5) || report::is_far(before, after, close)
+}
+
+fn foresee_asking(out: &mut [u8], at: usize, close: u32, before: &[u8], after: &[u8]) -> usize {
+    if may_slip(close, before, after) {
+        return text::put(
+            out,
+            at,
+            b"\nsession will ask for --yes: look at the close again\n",
+        );
+    }
+    at
 }
 
 // What the session would answer, and each row that it would add.
@@ -202,8 +378,9 @@ fn foresee(day: u32, close: u32, calendar: &[u8], before: &[u8], after: &mut [u8
     }
     let mut out = space::output();
     let totals = totals_of(answer);
-    let at = report::changes(&mut out, 0, calendar, before, after, totals);
-    let end = report::added(&mut out, at, after, totals.added);
+    let at = report::changes(&mut out, 0, calendar, before, after, totals, close);
+    let at = report::added(&mut out, at, after, totals.added);
+    let end = foresee_asking(&mut out, at, close, before, after);
     say(STDOUT_FILENO, &out, end, DONE)
 }
 

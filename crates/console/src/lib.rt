@@ -1,20 +1,17 @@
 // The console program as a library: `run` does what the program's arguments ask and answers its exit status.
-mod restore;
-
-use help::ANNOUNCE;
-use help::AUDIT;
-use help::CALENDAR;
-use help::CHECK;
-use help::COMMANDS;
-use help::NAME;
-use help::PREVIEW;
-use help::REPLAY;
-use help::SESSION;
-use help::START;
-use libc::STDERR_FILENO;
-use libc::STDOUT_FILENO;
+use commands::ANNOUNCE;
+use commands::AUDIT;
+use commands::CALENDAR;
+use commands::CHECK;
+use commands::NAME;
+use commands::PREVIEW;
+use commands::REPLAY;
+use commands::SESSION;
+use commands::START;
+use commands::UNDO;
 use terminal::DONE;
 use terminal::TROUBLE;
+use usage::Words;
 
 fn with_register(command: u32, calendar: &[u8]) -> i32 {
     let mut register = space::register();
@@ -33,15 +30,27 @@ fn with_calendar(command: u32) -> i32 {
         return TROUBLE;
     }
     match command {
-        START => booking::make(calls::START, &calendar),
-        SESSION => booking::make(calls::SESSION, &calendar),
-        ANNOUNCE => booking::make(calls::ANNOUNCE, &calendar),
-        REPLAY | AUDIT => restore::run(command, &calendar),
+        START | SESSION | ANNOUNCE | REPLAY | AUDIT | UNDO => with_journal(command, &calendar),
         _ => with_register(command, &calendar),
     }
 }
 
+// The text of a journal takes half of the stack that a program has, so that there is room for one alone.
+fn with_journal(command: u32, calendar: &[u8]) -> i32 {
+    let mut room = space::journal();
+    match command {
+        START => booking::make(calls::START, calendar, &mut room),
+        SESSION => booking::make(calls::SESSION, calendar, &mut room),
+        ANNOUNCE => booking::make(calls::ANNOUNCE, calendar, &mut room),
+        UNDO => undoing::undo(calendar, &mut room),
+        _ => restoring::run(command, calendar, &mut room),
+    }
+}
+
 fn act(command: u32) -> i32 {
+    if !guard::is_clear(command) {
+        return TROUBLE;
+    }
     match command {
         CALENDAR => answers::make_calendar(),
         CHECK => answers::check(),
@@ -51,17 +60,13 @@ fn act(command: u32) -> i32 {
 }
 
 pub fn run() -> i32 {
-    if terminal::is_help(1) {
-        return help::say(STDOUT_FILENO, COMMANDS, DONE);
+    terminal::hold_streams();
+    let words = usage::first_words();
+    match words {
+        Words::Go(command) => act(command),
+        Words::Helped => DONE,
+        Words::Wrong => TROUBLE,
     }
-    let command = terminal::command();
-    if terminal::is_help(2) {
-        return help::say(STDOUT_FILENO, command, DONE);
-    }
-    if !terminal::fit(command) {
-        return help::say(STDERR_FILENO, command, TROUBLE);
-    }
-    act(command)
 }
 
 // The same for a main in C, which passes the exit status on.

@@ -199,24 +199,25 @@ fn words(out: &mut [u8], at: usize, reason: Reason) -> usize {
         Reason::NotDate => text::put(
             out,
             at,
-            b"not a date from 2000-01-01 on: write 2026-12-25, or +2026-01-10 for an extra session\n",
+            b"not a date from 2000-01-01 on: write 2026-12-25, or +2026-01-10 for an extra session",
         ),
-        Reason::Late => text::put(out, at, b"past 2099-12-31, the calendar's last day\n"),
+        Reason::Late => text::put(out, at, b"past 2099-12-31, the calendar's last day"),
         Reason::Weekend => text::put(
             out,
             at,
-            b"a Saturday or Sunday has no session anyway; write + before an extra session\n",
+            b"a Saturday or Sunday has no session anyway; write + before an extra session",
         ),
         Reason::Weekday => text::put(
             out,
             at,
-            b"a weekday has a session anyway; + is for a Saturday or Sunday\n",
+            b"a weekday has a session anyway; + is for a Saturday or Sunday",
         ),
     }
 }
 
-// Writes a line that was refused, and why.
+// Writes a line that was refused, and on the next line why.
 pub fn complaint(out: &mut [u8], at: usize, list: &[u8], line: u32, reason: Reason) -> usize {
     let at = lines::show(out, at, list, line);
+    let at = text::put(out, at, b"  ");
     words(out, at, reason)
 }

@@ -1,5 +1,4 @@
 // Reading a journal into lists of calls.
-use crate::UNTOLD;
 use calls::ANNOUNCE;
 use calls::KINDS;
 use calls::SESSION;
@@ -28,16 +27,16 @@ pub struct Extent {
 
 // A journal that was read.
 pub enum Calls {
-    // How many calls and pairs, and whether a last line without line feed, which a crash cut off, is left out.
-    Taken(Extent, bool),
+    // How many calls and pairs. A last line without line feed is left out.
+    Taken(Extent),
     // The first line that cannot be taken, and why.
     Refused(u32, Reason),
 }
 
-enum Line {
+pub enum Line {
     Nothing,
-    // A call of one pair: its kind, the pair, and the number behind it.
-    Call(u8, u32, u32, u16),
+    // A call of one pair: its kind and the pair.
+    Call(u8, u32, u32),
     Bad(Reason),
 }
 
@@ -47,7 +46,7 @@ enum Step {
     Bad(Reason),
 }
 
-fn kind_of(word: &[u8]) -> u8 {
+pub fn kind_of(word: &[u8]) -> u8 {
     if text::same(word, b"start") {
         return START;
     }
@@ -60,29 +59,29 @@ fn kind_of(word: &[u8]) -> u8 {
     KINDS
 }
 
-// What stands behind the arguments: nothing, or `=` and perhaps the number. The values beside the number are not read.
-fn told_of(line: &[u8]) -> Parsed {
+// Whether behind the arguments stands nothing, or `=` and perhaps a number. The words behind the number are not read here.
+fn is_told(line: &[u8]) -> bool {
     let sign = lines::word(line);
     if sign.len() == 0 {
-        return Parsed::Number(UNTOLD as u32);
+        return true;
     }
     if !text::same(sign, b"=") {
-        return Parsed::Bad;
+        return false;
     }
     let number = lines::word(lines::behind(line));
     if number.len() == 0 {
-        return Parsed::Number(UNTOLD as u32);
+        return true;
     }
-    text::read_number(number)
+    let Parsed::Number(_told) = text::read_number(number) else {
+        return false;
+    };
+    true
 }
 
 // A call whose arguments are read, with what stands behind them.
 fn with_told(kind: u8, x: u32, y: u32, line: &[u8]) -> Line {
-    let Parsed::Number(told) = told_of(line) else {
-        return Line::Bad(Reason::Number);
-    };
-    if told <= UNTOLD as u32 {
-        Line::Call(kind, x, y, told as u16)
+    if is_told(line) {
+        Line::Call(kind, x, y)
     } else {
         Line::Bad(Reason::Number)
     }
@@ -112,7 +111,8 @@ fn day_and_close(kind: u8, line: &[u8]) -> Line {
     with_told(kind, day, close, lines::behind(second))
 }
 
-fn parse(line: &[u8]) -> Line {
+// The call of a line without its line feed.
+pub fn call_in(line: &[u8]) -> Line {
     let content = lines::content(line);
     let name = lines::word(content);
     if name.len() == 0 {
@@ -135,14 +135,13 @@ fn take(
     kinds: &mut [u8],
     counts: &mut [u8],
     pool: &mut [[u32; 2]],
-    told: &mut [u16],
     taken: Extent,
 ) -> Step {
-    let parsed = parse(line);
+    let parsed = call_in(line);
     match parsed {
         Line::Nothing => Step::To(taken),
         Line::Bad(reason) => Step::Bad(reason),
-        Line::Call(kind, x, y, number) => {
+        Line::Call(kind, x, y) => {
             let n = taken.calls;
             let at = taken.pairs;
             if kinds.len() <= n {
@@ -154,13 +153,9 @@ fn take(
             if pool.len() <= at {
                 return Step::Bad(Reason::Full);
             }
-            if told.len() <= n {
-                return Step::Bad(Reason::Full);
-            }
             kinds[n] = kind;
             counts[n] = 1;
             pool[at] = [x, y];
-            told[n] = number;
             Step::To(Extent {
                 calls: n + 1,
                 pairs: at + 1,
@@ -169,22 +164,16 @@ fn take(
     }
 }
 
-// Reads a journal. The kind of a call goes into `kinds`, how many pairs it has into `counts`, the pairs of all calls one behind
-// the other into `pool`, and the number behind a call into `told`. An entry point: it takes any bytes.
-pub fn read(
-    text: &[u8],
-    kinds: &mut [u8],
-    counts: &mut [u8],
-    pool: &mut [[u32; 2]],
-    told: &mut [u16],
-) -> Calls {
+// Reads a journal. The kind of a call goes into `kinds`, how many pairs it has into `counts`, and the pairs of all calls one
+// behind the other into `pool`. An entry point: it takes any bytes.
+pub fn read(text: &[u8], kinds: &mut [u8], counts: &mut [u8], pool: &mut [[u32; 2]]) -> Calls {
     let mut taken = Extent { calls: 0, pairs: 0 };
     let mut line: u32 = 1;
     let mut start: usize = 0;
     let mut i: usize = 0;
     while i < text.len() {
         if text[i] == b'\n' {
-            let step = take(text::part(text, start, i), kinds, counts, pool, told, taken);
+            let step = take(text::part(text, start, i), kinds, counts, pool, taken);
             match step {
                 Step::Bad(reason) => return Calls::Refused(line, reason),
                 Step::To(to) => taken = to,
@@ -194,67 +183,7 @@ pub fn read(
         }
         i += 1;
     }
-    Calls::Taken(taken, start < text.len())
-}
-
-fn has_call(line: &[u8]) -> bool {
-    let name = lines::word(lines::content(line));
-    0 < name.len()
-}
-
-// The number of the line that has a call, counted from 0; 0 where there is none.
-pub fn line_of(text: &[u8], call: usize) -> u32 {
-    let mut left = call;
-    let mut line: u32 = 1;
-    let mut start: usize = 0;
-    let mut i: usize = 0;
-    while i < text.len() {
-        if text[i] == b'\n' {
-            if has_call(text::part(text, start, i)) {
-                if left == 0 {
-                    return line;
-                }
-                left -= 1;
-            }
-            start = i + 1;
-            line = lines::next(line);
-        }
-        i += 1;
-    }
-    0
-}
-
-// Whether the journal tells another number of a call than its replay gives.
-fn differs(number: u16, told: u16) -> bool {
-    told != UNTOLD && told != number
-}
-
-// The first of n calls of whose number the journal tells another than its replay gives; n where there is none.
-pub fn first_untold(numbers: &[u16], told: &[u16], n: usize) -> usize {
-    let mut i: usize = 0;
-    while i < n {
-        if numbers.len() <= i {
-            return n;
-        }
-        if told.len() <= i {
-            return n;
-        }
-        if differs(numbers[i], told[i]) {
-            return i;
-        }
-        i += 1;
-    }
-    n
-}
-
-// Writes such a call, at its line in the journal.
-pub fn untold(out: &mut [u8], at: usize, line: u32, told: u16, number: u16) -> usize {
-    phrases::fill(
-        out,
-        at,
-        b"line %n: the journal says %n, the replay says %n\n",
-        [line, told as u32, number as u32, 0, 0, 0],
-    )
+    Calls::Taken(taken)
 }
 
 fn reason_form(reason: Reason) -> u32 {
@@ -269,7 +198,7 @@ fn reason_form(reason: Reason) -> u32 {
     }
 }
 
-// Writes a line that was refused, and why.
+// Writes a line that was refused, and on the next line why.
 pub fn complaint(out: &mut [u8], at: usize, text: &[u8], line: u32, reason: Reason) -> usize {
     let words = lines::line(
         b"not a call: start, session or announce
@@ -282,6 +211,6 @@ one call more than fits",
         reason_form(reason),
     );
     let at = lines::show(out, at, text, line);
-    let at = text::put(out, at, words);
-    text::put_byte(out, at, b'\n')
+    let at = text::put(out, at, b"  ");
+    text::put(out, at, words)
 }

@@ -6,18 +6,24 @@
 //     session 2026-11-19 2420.10 = 19
 //
 // A call, its pairs of arguments, `=`, the number that it gave, and the values beside it. Each call has one pair.
+mod ending;
 mod input;
 mod output;
+mod telling;
 
+pub use ending::end_line;
+pub use ending::is_cut;
+pub use ending::is_name;
+pub use ending::is_text;
+pub use ending::whole;
 pub use input::Calls;
 pub use input::Extent;
+pub use input::Line;
 pub use input::Reason;
+pub use input::call_in;
 pub use input::complaint;
-pub use input::first_untold;
-pub use input::line_of;
 pub use input::read;
-pub use input::untold;
 pub use output::entry;
-
-// What the journal tells of a call where no number stands behind it.
-pub const UNTOLD: u16 = 65535;
+pub use telling::agrees;
+pub use telling::answer_in;
+pub use telling::number_told;

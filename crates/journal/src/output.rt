@@ -1,6 +1,7 @@
 // Writing a line of the journal. Every call whose numbers have at most nine digits reads back.
 use base::causes;
 use calls::ANNOUNCE;
+use calls::Answer;
 use dates::DAYS;
 use dates::MONTHS;
 use phrases::fill;
@@ -43,22 +44,20 @@ fn values_form(kind: u8, number: u32, a: u32) -> u32 {
 
 // A whole line: the call, its number and the values beside it. Those of a start or session are the rows added, the rows
 // removed and the row count; that of an announcement is how many wait.
-pub fn entry(
-    out: &mut [u8],
-    at: usize,
-    kind: u8,
-    pairs: &[[u32; 2]],
-    number: u32,
-    a: u32,
-    b: u32,
-    c: u32,
-) -> usize {
+pub fn entry(out: &mut [u8], at: usize, kind: u8, pairs: &[[u32; 2]], answer: Answer) -> usize {
+    let number = answer.number as u32;
+    let first = answer.first as u32;
     let values = lines::line(
         b" %m\n %n\n waiting %n\n added %n removed %n rows %n",
-        values_form(kind, number, a),
+        values_form(kind, number, first),
     );
     let at = call(out, at, kind, pairs);
     let at = fill(out, at, b" = %n", [number, 0, 0, 0, 0, 0]);
-    let at = fill(out, at, values, [a, b, c, 0, 0, 0]);
+    let at = fill(
+        out,
+        at,
+        values,
+        [first, answer.second as u32, answer.third as u32, 0, 0, 0],
+    );
     text::put_byte(out, at, b'\n')
 }

@@ -28,7 +28,7 @@ pub fn behind(line: &[u8]) -> &[u8] {
 }
 
 // Where the line of a number, counted from 1, begins, or the end of the text.
-fn line_start(text: &[u8], number: u32) -> usize {
+pub fn line_start(text: &[u8], number: u32) -> usize {
     let mut line: u32 = 1;
     let mut i: usize = 0;
     while i < text.len() {
@@ -58,8 +58,8 @@ fn shown(byte: u8) -> u8 {
     }
 }
 
-// Writes a line's first bytes, and two points where there are more.
-fn quote(out: &mut [u8], at: usize, line: &[u8]) -> usize {
+// Writes a line's first bytes as a terminal shows them, and two points where there are more.
+pub fn quote(out: &mut [u8], at: usize, line: &[u8]) -> usize {
     let mut end = at;
     let mut i: usize = 0;
     while i < line.len() {

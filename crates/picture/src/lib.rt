@@ -36,14 +36,24 @@ fn listed(out: &mut [u8], at: usize, calendar: &[u8], register: &[u8], scale: Sc
     bars::columns(out, at, calendar, register, scale, day)
 }
 
+// How each picture begins.
+const OPENING: [u8; 92] =
+    *b"<svg xmlns='http://www.w3.org/2000/svg' width='1000' height='1200' viewBox='0 0 1000 1200'>
+";
+
+// Whether bytes begin as the pictures that are drawn here.
+pub fn is_ours(bytes: &[u8]) -> bool {
+    text::same(text::part(bytes, 0, OPENING.len()), &OPENING)
+}
+
 // A register that lists nothing gives a picture that says so.
 pub fn svg(out: &mut [u8], at: usize, calendar: &[u8], register: &[u8]) -> usize {
     let scale = scale::scale_of(register);
+    let at = text::put(out, at, &OPENING);
     let at = text::put(
         out,
         at,
-        b"<svg xmlns='http://www.w3.org/2000/svg' width='1000' height='1200' viewBox='0 0 1000 1200'>
-<style>
+        b"<style>
 text{font:13px Helvetica,Arial,'Liberation Sans',sans-serif;fill:#333}
 .h{font-size:24px;font-weight:bold}.m{font-size:15px;font-weight:bold}
 .m,.c{text-anchor:middle}.y{text-anchor:end}.g{stroke:#ddd}.s{fill:#f0f0f0}

@@ -1,9 +1,13 @@
 // What stands in a register that was accepted, in words and tables. Whoever asks has opened it.
+mod brought;
+mod close;
 mod glance;
 mod outcome;
 mod parts;
 mod strikes;
 
+pub use close::far;
+pub use close::is_far;
 pub use glance::show;
 pub use outcome::Totals;
 pub use outcome::announced;

@@ -1,4 +1,6 @@
 // What an accepted call did to the register.
+use crate::brought::count_brought;
+use crate::close::distance;
 use crate::parts::Ladder;
 use crate::parts::announcements;
 use crate::parts::columns;
@@ -13,7 +15,7 @@ pub struct Totals {
     pub rows: u32,
 }
 
-// What a start or a session did: the totals, the month that was dropped, what was taken in, then the live months.
+// What a start or a session did: the totals, its close, the month that was dropped, what was taken in, then the live months.
 pub fn changes(
     out: &mut [u8],
     at: usize,
@@ -21,9 +23,11 @@ pub fn changes(
     before: &[u8],
     after: &[u8],
     totals: Totals,
+    close: u32,
 ) -> usize {
     let rows = reading::row_count(before);
     let at = heading(out, at, reading::day(after), totals, rows);
+    let at = distance(out, at, before, after, close);
     let at = expired(out, at, calendar, before, totals.removed);
     let n = reading::waiting(before);
     let at = fill_where(
@@ -135,23 +139,31 @@ fn compared(out: &mut [u8], at: usize, change: u32, was: Ladder, new: u32) -> us
     fill(out, at, form, [new, was.tier, was.low, was.high, 0, 0])
 }
 
-// What an announcement did, when what waits is introduced, and how much waits of what may.
+// What an announcement did, when what waits is introduced and how many rows it brings beyond those that stood before, and
+// how much waits of what may.
 pub fn announced(
     out: &mut [u8],
     at: usize,
     calendar: &[u8],
-    register: &[u8],
+    before: &[u8],
     month: u32,
     price: u32,
     waiting: u32,
 ) -> usize {
     let series = phrases::series(month, price);
-    let next = reading::next_session(calendar, register);
+    let next = reading::next_session(calendar, before);
+    let rows = count_brought(calendar, before, month, price);
     let at = fill(
         out,
         at,
-        b"announced: %m at %n, call %C, put %P\n  the session of %d introduces it; ",
-        [month, price, series, series, next, 0],
+        b"announced: %m at %n, call %C, put %P\n",
+        [month, price, series, series, 0, 0],
+    );
+    let at = fill(
+        out,
+        at,
+        b"  the session of %d introduces it, %n row%s; ",
+        [next, rows, rows, 0, 0, 0],
     );
     fill(
         out,

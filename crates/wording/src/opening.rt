@@ -58,7 +58,7 @@ pub fn refusal(
           the journal makes it anew: sindhopul replay CALENDAR JOURNAL REGISTER\n\
           |drefused, cause 15: this is no register of this calendar, or it was damaged\n  \
           look whether the two files belong together\n  \
-          the journal makes it anew: sindhopul replay CALENDAR JOURNAL REGISTER\n\
+          the journal makes it anew: sindhopul replay --force CALENDAR JOURNAL REGISTER\n\
           |srefused, cause 16: the register runs already, it stands at %d\n  \
           start is for an empty register; go on with session:\n  \
           sindhopul session CALENDAR REGISTER %d CLOSE\n\

@@ -5,7 +5,9 @@ use dates::DAYS;
 use dates::MONTHS;
 use grid::HIGHEST_CLOSE;
 use grid::LOWEST_CLOSE;
+use phrases::fill;
 use rules::LAST_FIRST_MONTH;
+use text::put;
 
 const LAST_DAY: u32 = DAYS as u32 - 1;
 
@@ -52,6 +54,43 @@ fn letter(number: u16, stands: u32, next: u32, after: u32, first: u32, x: u32, y
     }
 }
 
+// A day without session is said to be one, with its weekday. Day 0 was a Saturday.
+fn quiet_day(out: &mut [u8], at: usize, calendar: &[u8], day: u32, lead: &[u8]) -> usize {
+    if LAST_DAY < day || lookup::lookup_has_session(calendar, day) != 0 {
+        return at;
+    }
+    let at = put(out, at, lead);
+    let at = tell(
+        out,
+        at,
+        b"|0Saturday|1Sunday|2Monday|3Tuesday|4Wednesday|5Thursday|6Friday",
+        b'0' + (day % 7) as u8,
+        [0; 6],
+    );
+    put(out, at, b", without session")
+}
+
+// 18 and 19 begin with the day asked for.
+fn day_asked(out: &mut [u8], at: usize, calendar: &[u8], number: u16, day: u32) -> usize {
+    let values = [day, 0, 0, 0, 0, 0];
+    match number {
+        causes::START_DAY => {
+            let at = fill(out, at, b"refused, cause 18: %d", values);
+            quiet_day(out, at, calendar, day, b" is a ")
+        }
+        causes::SESSION_DAY => {
+            let at = fill(
+                out,
+                at,
+                b"refused, cause 19: %d is not the next session day",
+                values,
+            );
+            quiet_day(out, at, calendar, day, b": it is a ")
+        }
+        _ => at,
+    }
+}
+
 pub fn refusal(
     out: &mut [u8],
     at: usize,
@@ -73,32 +112,33 @@ pub fn refusal(
     let first = lookup::lookup_first_live(calendar, day);
     let letter = letter(number, stands, next, after, first, x, y);
     let values = match letter {
-        b'p' => [x, LAST_DAY, 0, 0, 0, 0],
-        b'n' | b's' => [x, after, 0, 0, 0, 0],
+        b'p' => [LAST_DAY, 0, 0, 0, 0, 0],
+        b'n' | b's' => [after, 0, 0, 0, 0, 0],
         b'f' | b'l' => [LAST_FIRST_MONTH as u32, day, first, 0, 0, 0],
         b'w' | b'c' => [y, LOWEST_CLOSE, HIGHEST_CLOSE, y, 0, 0],
-        _ => [x, stands, next, next, 0, 0],
+        _ => [stands, next, next, 0, 0, 0],
     };
+    let at = day_asked(out, at, calendar, number, x);
     tell(
         out,
         at,
-        b"|prefused, cause 18: %d is past %d, the last day\n  \
+        b"|p is past %d, the last day\n  \
           start on a session day up to then\n\
-          |nrefused, cause 18: %d has no session, nor has any day after it\n  \
+          |n, nor has any day after it one\n  \
           start on an earlier day\n\
-          |srefused, cause 18: %d has no session\n  \
+          |s\n  \
           start on a session day; the next after it is %d\n\
-          |brefused, cause 19: %d is not the next session day\n  \
+          |b\n  \
           the register stands at %d; the next session is %d\n  \
           the day asked for lies before that: already done, or before the start; look at the journal\n\
-          |drefused, cause 19: %d is not the next session day\n  \
+          |d\n  \
           the register stands at %d; the next session is %d\n  \
           that session is already done; sindhopul show CALENDAR REGISTER tells what it left\n\
-          |orefused, cause 19: %d is not the next session day\n  \
+          |o\n  \
           the register stands at %d; the next session is %d\n  \
           left out: the session of %d at least\n  \
           run the sessions in order, or look at the journal for one that was left out\n\
-          |grefused, cause 19: %d is not the next session day\n  \
+          |g\n  \
           the register stands at %d; the next session is %d\n  \
           the day asked for has no session; give %d\n\
           |frefused, cause 20: the last month that may be the first live one is March 2099, month %n\n  \
