@@ -1,7 +1,8 @@
 # make test: everything that decides whether a change may land. make demo: a year's calls up to the session after a
 # quarterly expiry. make bench: every call of the C interface against an independent implementation.
 # make program: the console program, build/sindhopul. make lib: the library, static and shared, in build/lib.
-# make install PREFIX=..: both, with header and pkg-config file. make compare-calendar: Warsaw's days beside QuantLib's.
+# make install PREFIX=..: both, with header, pkg-config file and Warsaw's calendar. make compare-calendar: Warsaw's days
+# beside QuantLib's.
 .PHONY: test demo bench program lib install compare-calendar
 
 PREFIX = /usr/local
@@ -47,9 +48,15 @@ build/lib/libsindhopul.so.1: target/staticlib/libcapi.a
 build/lib/libsindhopul.so: build/lib/libsindhopul.so.1
 	ln -sf libsindhopul.so.1 $@
 
-install: lib program
-	install -d $(DESTDIR)$(PREFIX)/bin $(DESTDIR)$(PREFIX)/include $(DESTDIR)$(PREFIX)/lib/pkgconfig
+# The calendar that the installed program starts with.
+build/warsaw.calendar: build/sindhopul calendars/warsaw.txt
+	build/sindhopul calendar calendars/warsaw.txt $@
+
+install: lib program build/warsaw.calendar
+	install -d $(DESTDIR)$(PREFIX)/bin $(DESTDIR)$(PREFIX)/include $(DESTDIR)$(PREFIX)/lib/pkgconfig \
+		$(DESTDIR)$(PREFIX)/share/sindhopul
 	install -m 755 build/sindhopul $(DESTDIR)$(PREFIX)/bin
+	install -m 644 calendars/warsaw.txt build/warsaw.calendar $(DESTDIR)$(PREFIX)/share/sindhopul
 	install -m 644 include/sindhopul.h $(DESTDIR)$(PREFIX)/include
 	install -m 644 build/lib/libsindhopul.a $(DESTDIR)$(PREFIX)/lib
 	install -m 755 build/lib/libsindhopul.so.1 $(DESTDIR)$(PREFIX)/lib

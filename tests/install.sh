@@ -1,6 +1,6 @@
 #!/bin/sh
-# Installs the library into a folder of its own, then builds and runs the examples as its users would: by pkg-config
-# against the shared object, and against the archive.
+# Installs library and program into a folder of their own. Builds and runs the examples as the library's users would: by
+# pkg-config against the shared object, and against the archive. Starts a register with what the program's user finds.
 set -eu
 root=$(cd "$(dirname "$0")/.." && pwd)
 cd "$root"
@@ -39,13 +39,24 @@ tests/c/symbols.sh "$prefix/lib/libsindhopul.so"
 readelf -d "$folder/ladder_c" >"$folder/needed"
 grep -q 'NEEDED.*\[libsindhopul\.so\.1\]' "$folder/needed"
 
+# The program starts with the calendar that came with it, which is that of the list beside it.
+program=$prefix/bin/sindhopul
+days=$prefix/share/sindhopul
+cmp calendars/warsaw.txt "$days/warsaw.txt"
+"$program" calendar "$days/warsaw.txt" "$folder/warsaw.calendar" >"$folder/nothing"
+cmp "$folder/warsaw.calendar" "$days/warsaw.calendar"
+"$program" start "$days/warsaw.calendar" "$folder/register" 2026-11-16 2413.37 --journal "$folder/journal" >"$folder/nothing"
+"$program" audit "$days/warsaw.calendar" "$folder/journal" "$folder/register" >"$folder/nothing"
+
 # DESTDIR goes before the prefix and is not told to anyone.
 make --no-print-directory --silent install DESTDIR="$folder/stage" PREFIX=/opt/wig
 grep -qx 'prefix=/opt/wig' "$folder/stage/opt/wig/lib/pkgconfig/sindhopul.pc"
 cmp include/sindhopul.h "$folder/stage/opt/wig/include/sindhopul.h"
+diff -r "$days" "$folder/stage/opt/wig/share/sindhopul"
 
 # One version in all places.
 version=$(pkg-config --modversion sindhopul)
 grep -qx "version = \"$version\"" bindings/rust/Cargo.toml
 grep -qx "version = \"$version\"" bindings/python/pyproject.toml
-echo "install: examples in C and C++ run, version $version"
+[ "$("$program" --version)" = "sindhopul $version" ]
+echo "install: examples in C and C++ run, the program starts a register, version $version"
