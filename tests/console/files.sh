@@ -279,6 +279,20 @@ done
 rm -r "$work/alone"
 fresh
 
+# What nobody may write is not replaced.
+fresh
+expect 0 '' picture calendar register picture.svg
+cp "$root/calendars/warsaw.txt" list
+chmod 444 register journal calendar picture.svg
+trouble 'register: is write-protected' session calendar register 2026-11-18 2413.37
+trouble 'register: is write-protected' replay calendar journal register --force
+trouble 'calendar: is write-protected' calendar list calendar
+trouble 'picture.svg: is write-protected' picture calendar register picture.svg
+chmod 644 register
+trouble 'journal: is write-protected' session calendar register 2026-11-18 2413.37 --journal journal
+trouble 'journal: is write-protected' undo calendar register journal
+chmod 644 journal calendar picture.svg
+
 # A disk that is full: no file may grow past 8 KiB, that of the messages neither, and the signal for that is ignored.
 remember
 (

@@ -354,3 +354,35 @@ expect 1 'line 65536: announce 2026-12 3100 = 0' replay calendar changed made
 echo 'announce 2026-12 3100' >>changed
 sed -i '$!s/ = 0//' changed
 trouble 'one call more than fits' replay calendar changed made
+
+# Another register's journal: nothing that replaces one of the two is offered, neither by a call nor by an audit.
+fresh
+expect 0 '' start calendar other 2026-11-16 5954.17 --journal diary
+expect 0 '' session calendar other 2026-11-17 6000.10 --journal diary
+expect 0 '' session calendar register 2026-11-18 2500.00 --journal journal
+for pair in 'other journal' 'register diary'; do
+    read -r one of_another <<<"$pair"
+    for call in 'session calendar @ 2026-11-18 2500.00' 'announce calendar @ 2026-12 6900'; do
+        # shellcheck disable=SC2086  # the words are several
+        trouble "not this register's journal" ${call/@/$one} --journal "$of_another"
+        [ -z "$(told force)" ] || fail "--force is offered: $(cat "$work/err")"
+    done
+    trouble "not this register's journal" undo calendar "$one" "$of_another"
+    expect 1 "not this register's journal" audit calendar "$of_another" "$one"
+    [ -z "$(told '--force')" ] || fail "--force is offered: $(cat "$work/err")"
+done
+
+# A start that was cut off before it wrote the register can be taken back.
+fresh
+head -n 1 journal >started
+rm register
+expect 0 '' undo calendar register started
+has started '# taken back: start 2026-11-16 2413.37 = 0 added 94 removed 0 rows 94'
+expect 0 '' start calendar register 2026-11-16 2500.00 --journal started
+expect 0 '' audit calendar started register
+
+# A journal that has no room for a line more takes none.
+fresh
+seq 119830 | sed 's/.*/# a line of thirty-two characters./' >>journal
+trouble 'it is full' session calendar register 2026-11-18 2500.00 --journal journal
+expect 0 '' audit calendar journal register
