@@ -6,7 +6,7 @@
 .PHONY: test demo bench program lib install compare-calendar
 
 PREFIX = /usr/local
-VERSION = 0.1.0
+VERSION = 0.2.0
 
 test:
 	@bash tests/run

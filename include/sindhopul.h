@@ -55,6 +55,15 @@ extern "C" {
 /* The length of a name, as in OW20L262400; no zero byte follows it. */
 #define SINDHOPUL_NAME_BYTES 11
 
+/* The length of a series in a file of series, a name and its origin. Such a file is made of fields,
+ * each a tag of one byte, the length of its content in two, low byte first, and the content. The
+ * first field has tag 1 and holds a day, two bytes, low byte first. Each other has tag 2 and holds
+ * a series; each name is above the one before by byte value. */
+#define SINDHOPUL_SERIES_BYTES 12
+
+/* The length of the longest file of a register: its day, and a call and a put for each row. */
+#define SINDHOPUL_MOST_FILE_BYTES 41735
+
 enum {
     SINDHOPUL_ACCEPTED = 0,
     /* The calendar is not 4566 bytes long. */
@@ -99,7 +108,17 @@ enum {
      * expiry: 5 to 475 by 5, 480 to 990 by 10, 1000 to 9975 by 25. */
     SINDHOPUL_CAUSE_NAME_SERIES = 28,
     /* The name has a byte that cannot stand at its place. */
-    SINDHOPUL_CAUSE_NAME_BYTE = 29
+    SINDHOPUL_CAUSE_NAME_BYTE = 29,
+    /* The output buffer is too short. */
+    SINDHOPUL_CAUSE_OUTPUT_LENGTH = 30,
+    /* The bytes are no file of series. The place told counts from 0 and is the lowest that is at
+     * fault. In the first field that is not right it is the first byte that cannot stand there,
+     * or the number of bytes where they end inside the field. Where all bytes of that field are
+     * there and can stand, it is the first byte of its content, whose day is above 36524, whose
+     * price is not on the grid under 28, or whose name is not above the one before. Any byte can
+     * stand in a day. In a series can stand OW20, a letter A to X, six digits and an origin 1 to
+     * 5. */
+    SINDHOPUL_CAUSE_FILE_FORM = 31
 };
 
 typedef struct {
@@ -131,6 +150,17 @@ typedef struct {
     uint16_t type;  /* 0 call, 1 put */
     uint16_t price; /* whole index points */
 } sindhopul_name_result;
+
+typedef struct {
+    uint16_t number;
+    uint32_t length; /* how many bytes the file has; with 13: the month as above */
+} sindhopul_file_write_result;
+
+typedef struct {
+    uint16_t number;
+    uint32_t day;    /* the file's day; with 31: the place, from 0 */
+    uint32_t series; /* how many series the file has */
+} sindhopul_file_read_result;
 
 /* The layout that the library was compiled with. */
 #ifdef __cplusplus
@@ -167,10 +197,25 @@ SINDHOPUL_PLACE(sindhopul_name_result, month, 2);
 SINDHOPUL_PLACE(sindhopul_name_result, type, 4);
 SINDHOPUL_PLACE(sindhopul_name_result, price, 6);
 
+SINDHOPUL_SIZE(sindhopul_file_write_result, 8);
+SINDHOPUL_PLACE(sindhopul_file_write_result, number, 0);
+SINDHOPUL_PLACE(sindhopul_file_write_result, length, 4);
+
+SINDHOPUL_SIZE(sindhopul_file_read_result, 12);
+SINDHOPUL_PLACE(sindhopul_file_read_result, number, 0);
+SINDHOPUL_PLACE(sindhopul_file_read_result, day, 4);
+SINDHOPUL_PLACE(sindhopul_file_read_result, series, 8);
+
 /* The head, the announcements and the rows are all of a register. */
 SINDHOPUL_HOLDS(8 + 4 * SINDHOPUL_MOST_ANNOUNCEMENTS + SINDHOPUL_ROW_BYTES * SINDHOPUL_MOST_ROWS
                     == SINDHOPUL_REGISTER_BYTES,
                 "the register's parts");
+
+/* A field has three bytes before its content. */
+SINDHOPUL_HOLDS(5 + 2 * (3 + SINDHOPUL_SERIES_BYTES) * SINDHOPUL_MOST_ROWS
+                    == SINDHOPUL_MOST_FILE_BYTES,
+                "the longest file of a register");
+SINDHOPUL_HOLDS(SINDHOPUL_NAME_BYTES + 1 == SINDHOPUL_SERIES_BYTES, "a name and its origin");
 
 #undef SINDHOPUL_PLACE
 #undef SINDHOPUL_SIZE
@@ -212,6 +257,22 @@ uint16_t sindhopul_name_write(uint8_t *name, size_t name_length, uint32_t month,
 /* Reads the series of a name. Numbers: 0, or the first that holds of 27, 29 and 28: a name is
  * first of all of the form OW20, a letter A to X, six digits. */
 sindhopul_name_result sindhopul_name_read(const uint8_t *name, size_t name_length);
+
+/* Writes the file of a register's new series: the register's day, and call and put of each row
+ * whose first day it is. A buffer of exactly the file's length is long enough; one of
+ * SINDHOPUL_MOST_FILE_BYTES always is. Bytes behind the file stay as they were. Numbers: 0, or
+ * the first that holds of 11 to 15, 17 and 30. */
+sindhopul_file_write_result sindhopul_file_write(const uint8_t *calendar, size_t calendar_length,
+                                                 const uint8_t *register_bytes,
+                                                 size_t register_length, uint8_t *file,
+                                                 size_t file_length);
+
+/* Reads a file of series: its day, which need not be a session, how many series it names, and in
+ * the buffer the series in their order, SINDHOPUL_SERIES_BYTES each. Bytes behind them stay as
+ * they were. A buffer as long as the file always is long enough. Numbers: 0, or the first that
+ * holds of 31 and 30. */
+sindhopul_file_read_result sindhopul_file_read(const uint8_t *file, size_t file_length,
+                                               uint8_t *series, size_t series_length);
 
 #ifdef __cplusplus
 }

@@ -20,6 +20,11 @@ warnings="-Wall -Wextra -Werror -pedantic -O2"
 # shellcheck disable=SC2086
 "${CC:-cc}" -std=c11 $warnings -I"$prefix/include" examples/c/ladder.c "$prefix/lib/libsindhopul.a" \
     -o "$folder/ladder_static"
+# shellcheck disable=SC2086
+"${CC:-cc}" -std=c11 $warnings examples/c/loader.c $flags -o "$folder/loader_c"
+# shellcheck disable=SC2086
+"${CC:-cc}" -std=c11 $warnings -I"$prefix/include" examples/c/loader.c "$prefix/lib/libsindhopul.a" \
+    -o "$folder/loader_static"
 
 for example in ladder_c ladder_cpp ladder_static; do
     "$folder/$example" >"$folder/weekdays"
@@ -32,6 +37,25 @@ for example in ladder_c ladder_cpp ladder_static; do
         exit 1
     fi
     grep -qx 'start refused, cause 11' "$folder/refusal"
+done
+
+# loads STATUS LINE EXAMPLE FILE NAME: the loader ends with this status and writes this line.
+loads() {
+    status=0
+    "$folder/$3" "$4" "$5" >"$folder/answer" 2>&1 || status=$?
+    if [ "$status" != "$1" ] || [ "$(cat "$folder/answer")" != "$2" ]; then
+        echo "install: $3 $4 $5 ends with $status:" >&2
+        cat "$folder/answer" >&2
+        exit 1
+    fi
+}
+# Day 9817 and two series, then the same without the last byte.
+printf '\001\002\000\131\046\002\014\000OW20L262850\004\002\014\000OW20X262850\004' >"$folder/series"
+head -c 34 "$folder/series" >"$folder/cut"
+for example in loader_c loader_static; do
+    loads 0 'OW20X262850: new today, day 9817, origin 4, an announcement' "$example" "$folder/series" OW20X262850
+    loads 1 'OW20L262400: not new today, day 9817' "$example" "$folder/series" OW20L262400
+    loads 2 "$folder/cut refused, cause 31, place 34" "$example" "$folder/cut" OW20L262850
 done
 
 # The shared object has what the header declares, and is what the linked examples look for.
@@ -47,6 +71,9 @@ cmp calendars/warsaw.txt "$days/warsaw.txt"
 cmp "$folder/warsaw.calendar" "$days/warsaw.calendar"
 "$program" start "$days/warsaw.calendar" "$folder/register" 2026-11-16 2413.37 --journal "$folder/journal" >"$folder/nothing"
 "$program" audit "$days/warsaw.calendar" "$folder/journal" "$folder/register" >"$folder/nothing"
+# Its file of the day's new series is what the loader reads.
+"$program" file "$days/warsaw.calendar" "$folder/register" "$folder/series" >"$folder/nothing"
+loads 0 'OW20L262400: new today, day 9816, origin 5, the start' loader_c "$folder/series" OW20L262400
 
 # DESTDIR goes before the prefix and is not told to anyone.
 make --no-print-directory --silent install DESTDIR="$folder/stage" PREFIX=/opt/wig
@@ -59,4 +86,4 @@ version=$(pkg-config --modversion sindhopul)
 grep -qx "version = \"$version\"" bindings/rust/Cargo.toml
 grep -qx "version = \"$version\"" bindings/python/pyproject.toml
 [ "$("$program" --version)" = "sindhopul $version" ]
-echo "install: examples in C and C++ run, the program starts a register, version $version"
+echo "install: examples in C and C++ run, the program starts a register and writes its file, version $version"

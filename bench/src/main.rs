@@ -6,6 +6,7 @@
 mod calendars;
 mod calls;
 mod contest;
+mod files;
 mod names;
 mod registers;
 mod table;
@@ -34,6 +35,7 @@ fn main() {
     ];
     rows.extend(calls::time_all());
     rows.extend(names::time_all());
+    rows.extend(files::time_all());
     let replay = year::replay();
     let sessions_a_second = [&replay.sindhopul, &replay.independent].map(|time| 1e9 / time);
     rows.push(replay);

@@ -45,16 +45,22 @@ impl Desk {
         for (month, tier) in live_tiers(JUNE) {
             missing = desk.announce_rows(month, tier, missing);
         }
-        desk.session();
+        let desk = desk.after_session(CLOSE);
         assert_eq!(desk.running().rows.len(), rows);
         desk
     }
 
     /// With the next session a month leaves, one comes and two get finer grids.
     pub fn on_quarterly_expiry() -> Self {
-        let mut desk = Self::started(JUNE_EXPIRY - 1);
-        desk.session();
-        desk
+        Self::started(JUNE_EXPIRY - 1).after_session(CLOSE)
+    }
+
+    /// The register after its next session.
+    pub fn after_session(mut self, close: u32) -> Self {
+        let day = self.next_day();
+        calls::session(&self.calendar, &mut self.register, day, close)
+            .expect("it is the next session");
+        self
     }
 
     pub fn with_waiting(count: usize) -> Self {
@@ -80,12 +86,6 @@ impl Desk {
         register
             .expect("the register is good")
             .expect("it is running")
-    }
-
-    fn session(&mut self) {
-        let day = self.next_day();
-        calls::session(&self.calendar, &mut self.register, day, CLOSE)
-            .expect("it is the next session");
     }
 
     fn announce(&mut self, month: u16, price: u16) {

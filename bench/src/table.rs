@@ -51,12 +51,16 @@ const HEADING: [&str; 6] = [
 const NOTES: &str = "\
 Ratio: sindhopul to independent, whose names go through std's formatting and parsing.
 Yardstick: for a check the sum of the calendar's bytes read as 64-bit words; for a
-  call on a register a copy of its 11,264 bytes and the sum of register and calendar.
-Calls on a register are made on a fresh copy each time. What the copying takes by
-  itself was measured beside them and is taken off both, not off the yardstick.
+  call on a register a copy of its 11,264 bytes and the sum of register and calendar;
+  for a file that is written the same sum and a copy of the file, for one that is
+  read the sum of the file and a copy of its series.
+Calls on a register, file_write apart, which only reads it, are made on a fresh copy
+  each time. What the copying takes by itself was measured beside them and is taken
+  off both, not off the yardstick.
 Sessions: with so many rows standing and the close as before, so that nothing is
   listed; after the expiry of June 2026 (33 rows leave, 34 come); from 94 rows with
   a close of 6960 points (501 rows come); refused, since the day is not the next.
+Files: those of the sessions after the expiry (68 series) and with that close (1,002).
 Holidays: those of calendars/warsaw.txt, as the registers have them.
 Empty weeks: the same calendar without the sessions from the second Monday of
   every month to its Friday, so that with the weekends nine days have none.

@@ -1,4 +1,4 @@
-//! The four calls on a register. Causes are tried in document 01's order; a refusal changes no
+//! Start, session, announce and rows. Causes are tried in document 01's order; a refusal changes no
 //! byte.
 
 use std::ops::Range;
@@ -112,7 +112,7 @@ pub fn rows(calendar: &[u8], bytes: &[u8], month: u32) -> Result<Range<usize>, R
     Ok(ROWS_AT + ROW_BYTES * places.start..ROWS_AT + ROW_BYTES * places.end)
 }
 
-fn running(calendar: Calendar, bytes: &[u8]) -> Result<Register, RegisterError> {
+pub(crate) fn running(calendar: Calendar, bytes: &[u8]) -> Result<Register, RegisterError> {
     Register::read(calendar, bytes)?.ok_or(RegisterError::Empty)
 }
 
@@ -213,47 +213,15 @@ fn put(bytes: &mut [u8], day: u16, rows: Vec<Row>, removed: usize) -> Listing {
 #[cfg(test)]
 mod tests {
     use super::*;
-    use crate::calendar::{bytes_of, CALENDAR_BYTES};
-    use crate::dates::DAYS;
-    use crate::register::{MOST_ROWS, REGISTER_BYTES};
+    use crate::desk::Desk;
+    use crate::register::MOST_ROWS;
     use crate::CalendarError;
 
     /// The third Friday of June 2026, month 317.
     const JUNE_EXPIRY: u32 = 9_666;
     const CLOSE: u32 = 241_337;
 
-    /// A register with a calendar where every day is a session.
-    struct Desk {
-        calendar: [u8; CALENDAR_BYTES],
-        bytes: [u8; REGISTER_BYTES],
-    }
-
     impl Desk {
-        fn empty() -> Self {
-            Self {
-                calendar: bytes_of(0..DAYS),
-                bytes: [0; REGISTER_BYTES],
-            }
-        }
-
-        fn started(day: u32, close: u32) -> Self {
-            let mut desk = Self::empty();
-            desk.start(day, close).unwrap();
-            desk
-        }
-
-        fn start(&mut self, day: u32, close: u32) -> Result<Listing, RegisterError> {
-            start(&self.calendar, &mut self.bytes, day, close)
-        }
-
-        fn session(&mut self, day: u32, close: u32) -> Result<Listing, RegisterError> {
-            session(&self.calendar, &mut self.bytes, day, close)
-        }
-
-        fn announce(&mut self, month: u32, price: u32) -> Result<u16, RegisterError> {
-            announce(&self.calendar, &mut self.bytes, month, price)
-        }
-
         fn register(&self) -> Register {
             let calendar = Calendar::check(&self.calendar).unwrap();
             running(calendar, &self.bytes).unwrap()

@@ -4,6 +4,7 @@
 use crate::calendar::{bytes_of, Calendar, CalendarError};
 use crate::calls::{self, Listing};
 use crate::dates::DAYS;
+use crate::files::{self, Contents, FileError, SERIES_BYTES};
 use crate::names::{self, NameError, OptionType, Series, NAME_BYTES};
 use crate::register::{Register, RegisterError, Row, REGISTER_BYTES};
 
@@ -22,7 +23,7 @@ pub fn answered(table: &str) -> String {
         let right = match words.as_slice() {
             [] | ["#", ..] => Some(line.to_string()),
             ["calls", ..] => Some(format!("calls {calls}")),
-            ["calendar" | "register", ..] => desk.make(&words).map(|()| line.to_string()),
+            ["calendar" | "register" | "file", ..] => desk.make(&words).map(|()| line.to_string()),
             _ => {
                 calls += 1;
                 let answer = desk.answer(&words);
@@ -35,11 +36,12 @@ pub fn answered(table: &str) -> String {
     text
 }
 
-/// The calendar and the register of a run.
+/// The calendar, the register and the file of a run.
 #[derive(Default)]
 struct Desk {
     calendar: Vec<u8>,
     register: Vec<u8>,
+    file: Vec<u8>,
 }
 
 impl Desk {
@@ -65,6 +67,19 @@ impl Desk {
             ["register", "length", length] => self.register.resize(number(length)? as usize, 0),
             ["register", "byte", place, value] => {
                 *self.register.get_mut(number(place)? as usize)? = value.parse().ok()?;
+            }
+            ["file", "day", day] => {
+                let day: u16 = day.parse().ok()?;
+                self.file = [&[1, 2, 0][..], &day.to_le_bytes()].concat();
+            }
+            ["file", "series", name, origin] => {
+                self.file.extend([2, 12, 0]);
+                self.file.extend(name.bytes());
+                self.file.push(origin.parse().ok()?);
+            }
+            ["file", "length", length] => self.file.resize(number(length)? as usize, 0),
+            ["file", "byte", place, value] => {
+                *self.file.get_mut(number(place)? as usize)? = value.parse().ok()?;
             }
             _ => return None,
         }
@@ -108,6 +123,27 @@ impl Desk {
             }
             ["read"] => read(""),
             ["read", name] => read(name),
+            ["file_write", length] => {
+                let mut file = vec![0; number(length)? as usize];
+                match files::write(&self.calendar, &self.register, &mut file) {
+                    Ok(length) => {
+                        file.truncate(length);
+                        self.file = file;
+                        format!("0 {length} {:08x}", crc(&self.file))
+                    }
+                    Err(error) => file_refusal(error),
+                }
+            }
+            ["file_read", length] => {
+                let mut list = vec![0; number(length)? as usize];
+                match files::read(&self.file, &mut list) {
+                    Ok(Contents { day, series }) => {
+                        list.truncate(SERIES_BYTES * series);
+                        format!("0 {day} {series} {:08x}", crc(&list))
+                    }
+                    Err(error) => file_refusal(error),
+                }
+            }
             _ => return None,
         })
     }
@@ -178,6 +214,14 @@ fn refusal(error: RegisterError) -> String {
     match error {
         RegisterError::Calendar(CalendarError::NoSession { month }) => format!("13 {month}"),
         _ => error.number().to_string(),
+    }
+}
+
+fn file_refusal(error: FileError) -> String {
+    match error {
+        FileError::Register(error) => refusal(error),
+        FileError::NoFile { place } => format!("31 {place}"),
+        FileError::Short => error.number().to_string(),
     }
 }
 

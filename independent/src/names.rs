@@ -91,7 +91,7 @@ pub fn read(name: &[u8]) -> Result<Series, NameError> {
     })
 }
 
-fn can_stand(byte: u8, place: u16) -> bool {
+pub(crate) fn can_stand(byte: u8, place: u16) -> bool {
     match place {
         0 => byte == b'O',
         1 => byte == b'W',

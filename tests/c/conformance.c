@@ -7,15 +7,17 @@
 #include <stdlib.h>
 #include <string.h>
 
-enum { LONGEST_LINE = 200, MOST_WORDS = 4, MOST_BYTES = SINDHOPUL_REGISTER_BYTES + 1 };
+enum { LONGEST_LINE = 200, MOST_WORDS = 4, MOST_BYTES = SINDHOPUL_MOST_FILE_BYTES };
+
+enum { GUARD = 16, GUARD_BYTE = 0xa5 };
 
 typedef struct {
     uint8_t bytes[MOST_BYTES];
     size_t length;
 } buffer;
 
-/* The calendar and the register of the run. */
-static buffer calendar, listed;
+/* The calendar, the register and the file of the run. */
+static buffer calendar, listed, file;
 
 static unsigned line_number;
 
@@ -106,6 +108,11 @@ static void make_calendar(char **words, int count)
     }
 }
 
+static void set_byte(buffer *made, const char *place, const char *value)
+{
+    made->bytes[number_below(place, made->length)] = (uint8_t)number_below(value, 256);
+}
+
 static void make_register(char **words, int count)
 {
     if (count == 2 && strcmp(words[1], "empty") == 0) {
@@ -114,8 +121,43 @@ static void make_register(char **words, int count)
     } else if (count == 3 && strcmp(words[1], "length") == 0) {
         set_length(&listed, number_below(words[2], MOST_BYTES + 1));
     } else if (count == 4 && strcmp(words[1], "byte") == 0) {
-        size_t place = number_below(words[2], listed.length);
-        listed.bytes[place] = (uint8_t)number_below(words[3], 256);
+        set_byte(&listed, words[2], words[3]);
+    } else {
+        fail("there is no such line", "");
+    }
+}
+
+/* Adds a field at the end of the file: tag, length and content. */
+static void add_field(uint8_t tag, const void *content, uint8_t length)
+{
+    uint8_t head[3] = {tag, length, 0};
+    if (file.length + sizeof head + length > MOST_BYTES) {
+        fail("the file is too long", "");
+    }
+    memcpy(file.bytes + file.length, head, sizeof head);
+    memcpy(file.bytes + file.length + sizeof head, content, length);
+    file.length += sizeof head + length;
+}
+
+static void make_file(char **words, int count)
+{
+    if (count == 3 && strcmp(words[1], "day") == 0) {
+        size_t day = number_below(words[2], 65536);
+        uint8_t content[2] = {(uint8_t)(day % 256), (uint8_t)(day / 256)};
+        file.length = 0;
+        add_field(1, content, sizeof content);
+    } else if (count == 4 && strcmp(words[1], "series") == 0) {
+        uint8_t content[SINDHOPUL_SERIES_BYTES];
+        if (strlen(words[2]) != SINDHOPUL_NAME_BYTES) {
+            fail("not as long as a name: ", words[2]);
+        }
+        memcpy(content, words[2], SINDHOPUL_NAME_BYTES);
+        content[SINDHOPUL_NAME_BYTES] = (uint8_t)number_below(words[3], 256);
+        add_field(2, content, sizeof content);
+    } else if (count == 3 && strcmp(words[1], "length") == 0) {
+        set_length(&file, number_below(words[2], MOST_BYTES + 1));
+    } else if (count == 4 && strcmp(words[1], "byte") == 0) {
+        set_byte(&file, words[2], words[3]);
     } else {
         fail("there is no such line", "");
     }
@@ -140,7 +182,7 @@ static void tell_refusal(unsigned cause, unsigned value, unsigned second, unsign
     if (second != 0 || third != 0) {
         tell("%u %u %u %u", cause, value, second, third);
     } else if (value != 0 || cause == SINDHOPUL_CAUSE_CALENDAR_MONTH
-               || cause == SINDHOPUL_CAUSE_NAME_BYTE) {
+               || cause == SINDHOPUL_CAUSE_NAME_BYTE || cause == SINDHOPUL_CAUSE_FILE_FORM) {
         tell("%u %u", cause, value);
     } else {
         tell("%u", cause);
@@ -243,6 +285,62 @@ static void read_name(const char *name)
     }
 }
 
+/* A buffer for a call to write into, and the guard bytes around it. */
+static uint8_t room[GUARD + MOST_BYTES + GUARD];
+
+static uint8_t *made_room(void)
+{
+    memset(room, GUARD_BYTE, sizeof room);
+    return room + GUARD;
+}
+
+/* Every byte but so many of the buffer must be as it was. */
+static void expect_written(size_t length)
+{
+    size_t place;
+    for (place = 0; place < sizeof room; place++) {
+        if ((place < GUARD || place >= GUARD + length) && room[place] != GUARD_BYTE) {
+            fail("another byte of the buffer has changed", "");
+        }
+    }
+}
+
+static void write_file(size_t length)
+{
+    uint8_t *written = made_room();
+    sindhopul_file_write_result got = sindhopul_file_write(
+        calendar.bytes, calendar.length, listed.bytes, listed.length, written, length);
+    if (got.number != 0) {
+        expect_written(0);
+        tell_refusal(got.number, got.length, 0, 0);
+    } else if (got.length > length) {
+        fail("a file that is longer than its buffer", "");
+    } else {
+        expect_written(got.length);
+        memcpy(file.bytes, written, got.length);
+        file.length = got.length;
+        tell("0 %lu %08lx", (unsigned long)got.length,
+             (unsigned long)crc_of(file.bytes, file.length));
+    }
+}
+
+static void read_file(size_t length)
+{
+    uint8_t *series = made_room();
+    sindhopul_file_read_result got = sindhopul_file_read(file.bytes, file.length, series, length);
+    if (got.number != 0) {
+        expect_written(0);
+        tell_refusal(got.number, got.day, got.series, 0);
+    } else if (got.series > length / SINDHOPUL_SERIES_BYTES) {
+        fail("a list that is longer than its buffer", "");
+    } else {
+        size_t size = (size_t)got.series * SINDHOPUL_SERIES_BYTES;
+        expect_written(size);
+        tell("0 %lu %lu %08lx", (unsigned long)got.day, (unsigned long)got.series,
+             (unsigned long)crc_of(series, size));
+    }
+}
+
 static void call(char **words, int count)
 {
     if (count == 1 && strcmp(words[0], "check") == 0) {
@@ -261,16 +359,28 @@ static void call(char **words, int count)
         write_name(number(words[1]), words[2], number(words[3]));
     } else if (count <= 2 && strcmp(words[0], "read") == 0) {
         read_name(count == 2 ? words[1] : "");
+    } else if (count == 2 && strcmp(words[0], "file_write") == 0) {
+        write_file(number_below(words[1], MOST_BYTES + 1));
+    } else if (count == 2 && strcmp(words[0], "file_read") == 0) {
+        read_file(number_below(words[1], MOST_BYTES + 1));
     } else {
         fail("there is no such line", "");
     }
 }
 
+static int changes_register(const char *name)
+{
+    return strcmp(name, "start") == 0 || strcmp(name, "session") == 0
+           || strcmp(name, "announce") == 0;
+}
+
 /* Makes a call, and compares all that it did. */
 static void compare(char **words, int count, const char *wanted)
 {
-    buffer calendar_before = calendar, listed_before = listed;
+    buffer calendar_before = calendar, listed_before = listed, file_before = file;
+    int accepted;
     call(words, count);
+    accepted = strncmp(answer, "0 ", 2) == 0;
     if (strcmp(answer, wanted) != 0) {
         fprintf(stderr, "conformance: line %u: wanted %s, got %s\n", line_number, wanted, answer);
         exit(1);
@@ -278,8 +388,13 @@ static void compare(char **words, int count, const char *wanted)
     if (memcmp(&calendar, &calendar_before, sizeof calendar) != 0) {
         fail("the calendar has changed", "");
     }
-    if (strncmp(answer, "0 ", 2) != 0 && memcmp(&listed, &listed_before, sizeof listed) != 0) {
+    if (!(accepted && changes_register(words[0]))
+        && memcmp(&listed, &listed_before, sizeof listed) != 0) {
         fail("the register has changed", "");
+    }
+    if (!(accepted && strcmp(words[0], "file_write") == 0)
+        && memcmp(&file, &file_before, sizeof file) != 0) {
+        fail("the file has changed", "");
     }
 }
 
@@ -315,6 +430,8 @@ int main(int argument_count, char **arguments)
             make_calendar(words, count);
         } else if (count >= 2 && strcmp(words[0], "register") == 0) {
             make_register(words, count);
+        } else if (count >= 2 && strcmp(words[0], "file") == 0) {
+            make_file(words, count);
         } else if (count == 2 && strcmp(words[0], "calls") == 0) {
             wanted_calls = number(words[1]);
         } else {

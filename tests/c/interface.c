@@ -1,4 +1,4 @@
-/* The C interface on worked examples of document 01, refusals and guarded buffers.
+/* The C interface on worked examples of documents 01 and 02, refusals and guarded buffers.
  * It is C11 and C++11 alike, so that the header is tried in both. */
 #include "sindhopul.h"
 
@@ -415,7 +415,209 @@ static void test_register_without_month(void)
     CHECK(same(&some, &before));
 }
 
-/* The header's names for the causes, in the order of document 01's table, which counts from 11. */
+/* Files of series */
+
+/* A buffer between guard bytes, filled with them too. */
+typedef struct {
+    uint8_t bytes[GUARD + SINDHOPUL_MOST_FILE_BYTES + GUARD];
+} sheet;
+
+static sheet blank_sheet(void)
+{
+    sheet made;
+    memset(made.bytes, GUARD_BYTE, sizeof made.bytes);
+    return made;
+}
+
+static uint8_t *on(sheet *used, size_t place)
+{
+    return used->bytes + GUARD + place;
+}
+
+/* Whether all bytes stand as they were filled, but for so many of the buffer. */
+static int stands_behind(sheet *used, size_t length)
+{
+    sheet blank = blank_sheet();
+    memcpy(on(&blank, 0), on(used, 0), length);
+    return memcmp(blank.bytes, used->bytes, sizeof blank.bytes) == 0;
+}
+
+static sindhopul_file_write_result write_file(desk *used, sheet *file, size_t length)
+{
+    return sindhopul_file_write(used->calendar.bytes, SINDHOPUL_CALENDAR_BYTES, at(used, 0),
+                                SINDHOPUL_REGISTER_BYTES, on(file, 0), length);
+}
+
+static int is_written(sindhopul_file_write_result got, unsigned number, uint32_t length)
+{
+    return got.number == number && got.length == length;
+}
+
+static int is_contents(sindhopul_file_read_result got, unsigned number, uint32_t day,
+                       uint32_t series)
+{
+    return got.number == number && got.day == day && got.series == series;
+}
+
+/* Whether writing is refused so, with no byte changed of buffer, register or calendar. */
+static int keeps_file(desk *used, size_t length, unsigned number, uint32_t month)
+{
+    desk before = *used;
+    sheet file = blank_sheet();
+    return is_written(write_file(used, &file, length), number, month) && stands_behind(&file, 0)
+           && same(used, &before);
+}
+
+/* Whether reading is refused so, with no byte changed of file or buffer. */
+static int keeps_list(const uint8_t *file, size_t length, size_t room, unsigned number,
+                      uint32_t place)
+{
+    sheet lent = blank_sheet(), before, list = blank_sheet();
+    memcpy(on(&lent, 0), file, length);
+    before = lent;
+    return is_contents(sindhopul_file_read(on(&lent, 0), length, on(&list, 0), room), number,
+                       place, 0)
+           && stands_behind(&list, 0) && memcmp(&lent, &before, sizeof lent) == 0;
+}
+
+/* The field of a series, 15 bytes. */
+static void put_field(uint8_t *field, const char *name, uint8_t origin)
+{
+    field[0] = 2;
+    field[1] = SINDHOPUL_SERIES_BYTES;
+    field[2] = 0;
+    memcpy(field + 3, name, SINDHOPUL_NAME_BYTES);
+    field[3 + SINDHOPUL_NAME_BYTES] = origin;
+}
+
+static void test_file_bytes(void)
+{
+    CHECK(SINDHOPUL_SERIES_BYTES == 12);
+    CHECK(SINDHOPUL_MOST_FILE_BYTES == 41735);
+}
+
+/* The start's 94 rows are 188 series. By their letters those of March 2027 come first. */
+static void test_file_written(void)
+{
+    const uint8_t head[5] = {1, 2, 0, 0xc0, 0x25};
+    uint8_t first[15], last[15];
+    desk some = started_desk(), before = some;
+    sheet file = blank_sheet(), list = blank_sheet();
+    put_field(first, "OW20C272000", 5);
+    put_field(last, "OW20X262800", 5);
+    CHECK(is_written(write_file(&some, &file, SINDHOPUL_MOST_FILE_BYTES), 0, 2825));
+    CHECK(stands_behind(&file, 2825));
+    CHECK(same(&some, &before));
+    CHECK(memcmp(on(&file, 0), head, sizeof head) == 0);
+    CHECK(memcmp(on(&file, 5), first, sizeof first) == 0);
+    CHECK(memcmp(on(&file, 2810), last, sizeof last) == 0);
+    CHECK(is_contents(sindhopul_file_read(on(&file, 0), 2825, on(&list, 0), 188 * 12), 0,
+                      JUNE_FRIDAY - 2, 188));
+    CHECK(stands_behind(&list, 188 * 12));
+    CHECK(memcmp(on(&list, 0), first + 3, 12) == 0);
+    CHECK(memcmp(on(&list, 187 * 12), last + 3, 12) == 0);
+}
+
+/* A buffer of the file's length is long enough, and none that is shorter. */
+static void test_file_lengths(void)
+{
+    desk some = started_desk();
+    sheet file = blank_sheet(), list;
+    size_t length;
+    CHECK(is_written(write_file(&some, &file, 2825), 0, 2825));
+    CHECK(stands_behind(&file, 2825));
+    for (length = 0; length < 2825; length++) {
+        CHECK(keeps_file(&some, length, 30, 0));
+    }
+    for (length = 0; length < 188 * 12; length += 11) {
+        CHECK(keeps_list(on(&file, 0), 2825, length, 30, 0));
+    }
+    CHECK(keeps_list(on(&file, 0), 2825, 188 * 12 - 1, 30, 0));
+    list = blank_sheet();
+    CHECK(is_contents(
+        sindhopul_file_read(on(&file, 0), 2825, on(&list, 0), SINDHOPUL_MOST_FILE_BYTES), 0,
+        JUNE_FRIDAY - 2, 188));
+    CHECK(stands_behind(&list, 188 * 12));
+}
+
+/* A session that lists nothing has a file of its day alone, and a list of no byte. */
+static void test_file_of_nothing(void)
+{
+    const uint8_t written[5] = {1, 2, 0, 0xc1, 0x25};
+    desk some = started_desk();
+    sheet file = blank_sheet();
+    CHECK(is_listing(session(&some, JUNE_FRIDAY - 1, CLOSE), 0, 0, 0, 94));
+    CHECK(keeps_file(&some, 4, 30, 0));
+    CHECK(is_written(write_file(&some, &file, 5), 0, 5));
+    CHECK(stands_behind(&file, 5));
+    CHECK(memcmp(on(&file, 0), written, sizeof written) == 0);
+    CHECK(is_contents(sindhopul_file_read(on(&file, 0), 5, NULL, 0), 0, JUNE_FRIDAY - 1, 0));
+}
+
+static void test_file_not_written(void)
+{
+    desk some = empty_desk();
+    CHECK(keeps_file(&some, SINDHOPUL_MOST_FILE_BYTES, 17, 0));
+    CHECK(keeps_file(&some, 0, 17, 0));
+    some = started_desk();
+    CHECK(is_written(sindhopul_file_write(some.calendar.bytes, SINDHOPUL_CALENDAR_BYTES,
+                                          at(&some, 0), SINDHOPUL_REGISTER_BYTES, NULL, 0),
+                     30, 0));
+    *at(&some, 7) = 1;
+    CHECK(keeps_file(&some, SINDHOPUL_MOST_FILE_BYTES, 15, 0));
+    CHECK(is_written(sindhopul_file_write(some.calendar.bytes, SINDHOPUL_CALENDAR_BYTES, NULL, 0,
+                                          NULL, 0),
+                     14, 0));
+    CHECK(is_written(sindhopul_file_write(NULL, 0, NULL, 0, NULL, 0), 11, 0));
+    clear(&some.calendar, LAST_FIRST, LAST_FRIDAY);
+    CHECK(keeps_file(&some, SINDHOPUL_MOST_FILE_BYTES, 13, LAST));
+    turn(&some.calendar, 36525);
+    CHECK(keeps_file(&some, SINDHOPUL_MOST_FILE_BYTES, 12, 0));
+}
+
+static void test_days_read(void)
+{
+    uint8_t file[6] = {1, 2, 0, 0xac, 0x8e, 0};
+    CHECK(is_contents(sindhopul_file_read(file, 5, NULL, 0), 0, 36524, 0));
+    CHECK(keeps_list(file, 6, 12, 31, 5));
+    file[3] = 0xad;
+    CHECK(keeps_list(file, 5, 12, 31, 3));
+    CHECK(keeps_list(file, 6, 12, 31, 3));
+    CHECK(keeps_list(file, 4, 12, 31, 4));
+    CHECK(is_contents(sindhopul_file_read(NULL, 0, NULL, 0), 31, 0, 0));
+}
+
+static void test_files_not_read(void)
+{
+    uint8_t file[35] = {1, 2, 0, 0xc0, 0x25}, damaged[35];
+    unsigned place;
+    put_field(file + 5, "OW20L262400", 1);
+    put_field(file + 20, "OW20L262425", 5);
+    for (place = 0; place < sizeof file; place++) {
+        if (place != 3 && place != 4) {
+            memcpy(damaged, file, sizeof file);
+            damaged[place] = '?';
+            CHECK(keeps_list(damaged, sizeof file, 24, 31, place));
+        }
+        if (place != 5 && place != 20) {
+            CHECK(keeps_list(file, place, 24, 31, place));
+        }
+    }
+    /* Of content that does not fit the first byte is told: a price, a name that is not above. */
+    put_field(file + 20, "OW20L262426", 5);
+    CHECK(keeps_list(file, sizeof file, 24, 31, 23));
+    CHECK(keeps_list(file, sizeof file, 0, 31, 23));
+    put_field(file + 20, "OW20L262400", 5);
+    CHECK(keeps_list(file, sizeof file, 24, 31, 23));
+    put_field(file + 20, "OW20A272400", 5);
+    CHECK(keeps_list(file, sizeof file, 24, 31, 23));
+    /* In a field that is not whole, or has another fault, that is told. */
+    put_field(file + 20, "OW20A272401", 6);
+    CHECK(keeps_list(file, sizeof file, 24, 31, 34));
+    CHECK(keeps_list(file, sizeof file - 1, 24, 31, 34));
+}
+
+/* The header's names for the causes, in the order of their numbers, which count from 11. */
 static void test_cause_numbers(void)
 {
     static const unsigned causes[] = {
@@ -428,12 +630,13 @@ static void test_cause_numbers(void)
         SINDHOPUL_CAUSE_ANNOUNCE_PRICE,  SINDHOPUL_CAUSE_ANNOUNCE_KNOWN,
         SINDHOPUL_CAUSE_ANNOUNCE_FULL,   SINDHOPUL_CAUSE_ROWS_MONTH,
         SINDHOPUL_CAUSE_NAME_LENGTH,     SINDHOPUL_CAUSE_NAME_SERIES,
-        SINDHOPUL_CAUSE_NAME_BYTE,
+        SINDHOPUL_CAUSE_NAME_BYTE,       SINDHOPUL_CAUSE_OUTPUT_LENGTH,
+        SINDHOPUL_CAUSE_FILE_FORM,
     };
     unsigned i;
     CHECK(SINDHOPUL_ACCEPTED == 0);
-    CHECK(sizeof causes / sizeof causes[0] == 19);
-    for (i = 0; i < 19; i++)
+    CHECK(sizeof causes / sizeof causes[0] == 21);
+    for (i = 0; i < 21; i++)
         CHECK(causes[i] == 11 + i);
 }
 
@@ -456,6 +659,13 @@ int main(void)
     test_announcements_full();
     test_register_refused();
     test_register_without_month();
+    test_file_bytes();
+    test_file_written();
+    test_file_lengths();
+    test_file_of_nothing();
+    test_file_not_written();
+    test_days_read();
+    test_files_not_read();
     if (failures > 0) {
         fprintf(stderr, "interface: %d failed\n", failures);
         return 1;

@@ -228,9 +228,14 @@ rm again
 refusals=0
 while read -r call first second; do
     status=0
-    "$program" "$call" calendar year "$first" "$second" --journal diary >/dev/null 2>"$work/err" || status=$?
+    with_file=()
+    case $call in start | session) with_file=(--file new.series) ;; esac
+    "$program" "$call" calendar year "$first" "$second" --journal diary "${with_file[@]}" >/dev/null 2>"$work/err" || status=$?
     [ "$status" -le 1 ] || fail "'$call $first $second' ended with $status: $(cat "$work/err")"
     refusals=$((refusals + status))
+    # The file that came with the call is the one that is made afterwards.
+    "$program" file calendar year again.series >/dev/null
+    same again.series new.series
 done < <(grep -v '^#' "$root/demo/year.txt")
 [ "$refusals" -eq 1 ] || fail "$refusals calls of the demo's year were refused"
 echo '87f292e9e9fdffb75ce519cf6148f95282248ed1a8f85806ea30154b25c2d961  year' | sha256sum --check --quiet ||
@@ -240,7 +245,7 @@ same year.svg "$root/docs/ladders.svg"
 expect 0 '' audit calendar diary year
 expect 0 '' replay calendar diary again
 same again year
-rm again year.svg diary
+rm again year.svg diary again.series new.series
 
 # What is listed, what is not and what would bring it in, against the same told apart from the program.
 cp register full

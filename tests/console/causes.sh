@@ -12,6 +12,24 @@ cp register damaged
 poke damaged 7 1
 refused 15 'replay --force CALENDAR JOURNAL REGISTER' rows calendar damaged
 head -c 11264 /dev/zero >empty
+expect 0 '' file calendar register series
+# Over a file that is there and where there is none; the words are the same.
+kept=$messages
+for file in series made; do
+    if [ "$file" = made ]; then messages=/dev/null; fi
+    refused 12 '2099-12-31' file tail register "$file"
+    refused 13 '2000-01' file none register "$file"
+    refused 15 'replay --force CALENDAR JOURNAL REGISTER' file calendar damaged "$file"
+    refused 17 'start' file calendar empty "$file"
+    refused 12 '2099-12-31' session tail register 2026-11-18 2413.37 --file "$file"
+    refused 15 'replay --force' session calendar damaged 2026-11-18 2413.37 --file "$file"
+    refused 16 'stands at 2026-11-17' start calendar register 2026-11-17 2413.37 --file "$file"
+    refused 17 'start' session calendar empty 2026-11-17 2413.37 --file "$file"
+    refused 18 'the next after it is 2026-11-16' start calendar empty 2026-11-14 2413.37 --file "$file"
+    refused 19 '2026-11-18' session calendar register 2026-11-21 2413.37 --file "$file"
+    refused 21 '90.00 to 9549.99' session calendar register 2026-11-18 80.00 --file "$file"
+done
+messages=$kept
 refused 16 'stands at 2026-11-17' start calendar register 2026-11-17 2413.37
 refused 17 'start' session calendar empty 2026-11-17 2413.37
 refused 18 'the next after it is 2026-11-16' start calendar empty 2026-11-14 2413.37
@@ -28,3 +46,5 @@ refused 26 'live months: 2026-11 2026-12 ' rows calendar register 2027-02
 refused 27 'OW20L262400' name OW20L26240
 refused 28 'grid of tier N: 5 to 475 by 5' name 2026-12 call 2401
 refused 29 'character 5' name OW20Z262400
+printf '\1\2\0\377\377' >past
+refused 31 'place 3, counted from 0' series past

@@ -1,12 +1,13 @@
 /* Lets a command meet every fault at each of its system calls in turn, and judges what each leaves.
    usage: faults CASE REPLACED APPENDED AGAIN COMMAND [ARGUMENT ..]
    in a folder that has old/ and new/, the files before and after the whole command, and desk/, in which it is run.
-   REPLACED   files that are the old one or the new one to the byte, with commas between
-   APPENDED   the journal, which gets one line; - for none
+   REPLACED   files that are the old one or the new one to the byte, with commas between, in the order in which they move
+   APPENDED   the journal, which gets one line before any file moves; - for none
    AGAIN      what the same command does where its work is done already: 0, the same once more; a cause, it is refused
               and the journal gets a line that says so; -, more work, so it is not run again
    All other files are read alone. A journal loses no whole line, REPLACED.new is the only other file that may be left,
-   what the command says of the files is so, and run again it completes its work, once a lock that it names is gone. */
+   what the command says of the files is so, and run again it completes its work: at once, or once the locks that it names
+   are gone. */
 #define _GNU_SOURCE
 #include "fault_at.h"
 
@@ -39,6 +40,8 @@ struct file {
     char name[64];
     char lock[72];
     enum access access;
+    int rank; /* a file of a lower rank is written first */
+    enum state state;
     struct bytes old;
     struct bytes new;
     size_t whole; /* so many bytes of a journal's old ones are whole lines */
@@ -177,11 +180,13 @@ static void add_files(const char *path)
 
 static void set_access(char *names, enum access access)
 {
+    int rank = access == REPLACED;
     for (char *name = strtok(names, ","); name != NULL; name = strtok(NULL, ",")) {
         struct file *file = file_named(name);
         if (file == NULL)
             fail("there is no %s", name);
         file->access = access;
+        file->rank = rank++;
         written++;
     }
 }
@@ -254,12 +259,21 @@ struct left {
 static struct left look(void)
 {
     struct left left = {{0}};
-    for (const struct file *file = files; file < files + file_count; file++) {
-        enum state state = state_of(file, read_bytes(file->name));
+    for (struct file *file = files; file < files + file_count; file++) {
+        file->state = state_of(file, read_bytes(file->name));
         if (file->access != READ)
-            left.in[state]++;
+            left.in[file->state]++;
     }
     return left;
+}
+
+static void check_order(void)
+{
+    for (const struct file *file = files; file < files + file_count; file++)
+        for (const struct file *other = files; other < files + file_count; other++)
+            if (file->access != READ && other->access != READ && file->rank < other->rank && file->state != NEW &&
+                other->state == NEW)
+                fail("%s is new and %s is not", other->name, file->name);
 }
 
 static void check_words(struct left left)
@@ -272,12 +286,12 @@ static void check_words(struct left left)
 
 /* The same command once more. */
 
-static int remove_named_lock(void)
+static int remove_named_locks(void)
 {
+    int removed = 0;
     for (struct file *file = files; file < files + file_count; file++)
-        if (strstr(message.text, file->lock) != NULL && unlink(file->lock) == 0)
-            return 1;
-    return 0;
+        removed += strstr(message.text, file->lock) != NULL && unlink(file->lock) == 0;
+    return removed;
 }
 
 /* The journal has one line more than the new one, which says that the call was refused. */
@@ -300,7 +314,7 @@ static void complete(int is_done)
     }
     int is_refused = is_done && again != 0;
     int status = run(command, &message);
-    while (status == 2 && remove_named_lock())
+    if (status == 2 && remove_named_locks() != 0)
         status = run(command, &message);
     if (status != is_refused)
         fail("the same command then ended with %d", status);
@@ -334,6 +348,7 @@ static void meet_all(void)
         int is_done = left.in[NEW] == written;
         if (met != MET && !is_done)
             fail("the command ended well and its work is not done");
+        check_order();
         check_words(left);
         if (met == ENDED && locks != 0)
             fail("the whole command left a lock");

@@ -56,6 +56,14 @@ older_picture() {
     "$program" picture calendar older picture.svg >/dev/null
     rm older
 }
+older_series() {
+    "$program" start calendar older 2026-11-19 2413.37 --file series >/dev/null
+    rm older
+}
+ahead_with_series() {
+    older_series
+    journal_ahead
+}
 
 # No line of the old journal is missing in the new one; one that was taken back stands in a comment.
 keeps_lines() {
@@ -96,21 +104,30 @@ while read -r name before replaced appended again words; do
     try "$name" "$before" "$replaced" "$appended" "$again" $words </dev/null
     tried=$((tried + 1))
 done <<'END'
-session        as_on_that_day    register         journal 19 session calendar register 2026-11-23 2480.25 --journal journal
-session-cut    cut_line          register         journal 19 session calendar register 2026-11-23 2480.25 --journal journal
-session-ahead  journal_ahead     register         -       -  session calendar register 2026-11-23 2480.25 --journal journal
-start          none_but_calendar register         journal 16 start calendar register 2026-11-20 2413.37 --journal journal
-announce       as_on_that_day    register         journal 24 announce calendar register 2027-03 3500 --journal journal
-replay         no_register       register         -       0  replay calendar journal register
-replay-empty   empty_register    register         -       0  replay calendar journal register
-replay-older   older_register    register         -       0  replay calendar journal register --force
-undo           as_on_that_day    register,journal -       -  undo calendar register journal
-undo-cut       cut_line          register,journal -       -  undo calendar register journal
-undo-start     only_started      register,journal -       -  undo calendar register journal
-calendar       no_calendar       calendar         -       0  calendar list calendar
-calendar-older older_calendar    calendar         -       0  calendar list calendar
-picture        as_on_that_day    picture.svg      -       0  picture calendar register picture.svg
-picture-older  older_picture     picture.svg      -       0  picture calendar register picture.svg
+session            as_on_that_day    register         journal 19 session calendar register 2026-11-23 2480.25 --journal journal
+session-cut        cut_line          register         journal 19 session calendar register 2026-11-23 2480.25 --journal journal
+session-ahead      journal_ahead     register         -       -  session calendar register 2026-11-23 2480.25 --journal journal
+start              none_but_calendar register         journal 16 start calendar register 2026-11-20 2413.37 --journal journal
+announce           as_on_that_day    register         journal 24 announce calendar register 2027-03 3500 --journal journal
+replay             no_register       register         -       0  replay calendar journal register
+replay-empty       empty_register    register         -       0  replay calendar journal register
+replay-older       older_register    register         -       0  replay calendar journal register --force
+undo               as_on_that_day    register,journal -       -  undo calendar register journal
+undo-cut           cut_line          register,journal -       -  undo calendar register journal
+undo-start         only_started      register,journal -       -  undo calendar register journal
+calendar           no_calendar       calendar         -       0  calendar list calendar
+calendar-older     older_calendar    calendar         -       0  calendar list calendar
+picture            as_on_that_day    picture.svg      -       0  picture calendar register picture.svg
+picture-older      older_picture     picture.svg      -       0  picture calendar register picture.svg
+file               as_on_that_day    series           -       0  file calendar register series
+file-older         older_series      series           -       0  file calendar register series
+session-file       older_series      series,register  journal 19 session calendar register 2026-11-23 2480.25 --journal journal --file series
+session-file-new   as_on_that_day    series,register  journal 19 session calendar register 2026-11-23 2480.25 --journal journal --file series
+session-file-cut   cut_line          series,register  journal 19 session calendar register 2026-11-23 2480.25 --journal journal --file series
+session-file-alone older_series      series,register  -       19 session calendar register 2026-11-23 2480.25 --file series
+session-file-ahead ahead_with_series series,register  -       -  session calendar register 2026-11-23 2480.25 --journal journal --file series
+start-file         none_but_calendar series,register  journal 16 start calendar register 2026-11-20 2413.37 --journal journal --file series
+start-file-alone   none_but_calendar series,register  -       16 start calendar register 2026-11-20 2413.37 --file series
 END
 [ "$tried" -gt 0 ] || {
     echo "faults: there is no case $*" >&2

@@ -24,9 +24,11 @@ rmdir folder
 # A lock that was left says how old it is and how it is taken away, whichever file it is of.
 cp "$root/calendars/warsaw.txt" list
 expect 0 '' picture calendar register picture.svg
+expect 0 '' file calendar register series
 for call in 'session calendar register 2026-11-18 2413.37' 'announce calendar register 2026-12 3200' 'start calendar register 2026-11-18 2413.37' \
-    'replay calendar journal register' 'undo calendar register journal' 'calendar list calendar' 'picture calendar register picture.svg'; do
-    case $call in calendar*) file=calendar ;; picture*) file=picture.svg ;; *) file=register ;; esac
+    'replay calendar journal register' 'undo calendar register journal' 'calendar list calendar' 'picture calendar register picture.svg' \
+    'file calendar register series' 'session calendar register 2026-11-18 2413.37 --file series'; do
+    case $call in calendar*) file=calendar ;; picture*) file=picture.svg ;; *series) file=series ;; *) file=register ;; esac
     touch -d '3 hours ago' "$file.new"
     # shellcheck disable=SC2086  # the words are several
     trouble "$file.new: is there already, for 3 hours 0 minutes" $call
@@ -60,6 +62,8 @@ ln -s far/calendar calendar
 ln -s deep/calendar far/calendar
 ln -s far/deep folder
 ln -s folder/picture.svg picture.svg
+ln -s far/series series
+ln -s deep/series far/series
 ln -s far/deep/list list
 # links_stay: all of them lead where they led.
 find . -type l -printf '%p %l\n' | sort >"$work/links"
@@ -68,14 +72,16 @@ links_stay() {
     if [ -n "$(find . -name '*.new')" ]; then fail "'$1' left a new file"; fi
     checks=$((checks + 1))
 }
-for call in 'calendar list calendar' 'session calendar register 2026-11-18 2500.00 --journal journal' \
+for call in 'calendar list calendar' 'session calendar register 2026-11-18 2500.00 --journal journal --file series' \
     'announce calendar register 2026-12 3200 --journal folder/journal' 'undo calendar register journal' \
-    'picture calendar register picture.svg' 'picture calendar folder/register folder/picture.svg'; do
+    'picture calendar register picture.svg' 'picture calendar folder/register folder/picture.svg' \
+    'file calendar register series' 'file calendar folder/register folder/series'; do
     # shellcheck disable=SC2086  # the words are several
     expect 0 '' $call
     links_stay "$call"
 done
 [ -f far/deep/picture.svg ] || fail "a picture did not go where a link leads"
+[ -f far/deep/series ] || fail "a file of series did not go where a link leads"
 stands 2026-11-18 far/deep/register
 expect 0 '' audit calendar far/deep/journal far/deep/register
 rm far/deep/register
@@ -85,9 +91,9 @@ expect 0 '' audit calendar journal far/deep/register
 expect 0 '' undo calendar register journal
 links_stay undo
 expect 0 '' audit calendar far/deep/journal far/deep/register
-rm far/deep/register far/deep/journal far/deep/calendar
+rm far/deep/register far/deep/journal far/deep/calendar far/deep/series
 expect 0 '' calendar list calendar
-expect 0 '' start calendar register 2026-11-16 2413.37 --journal journal
+expect 0 '' start calendar register 2026-11-16 2413.37 --journal journal --file series
 links_stay start
 expect 0 '' audit far/deep/calendar far/deep/journal far/deep/register
 # The lock.
@@ -95,14 +101,19 @@ touch far/deep/register.new
 messages=/dev/null trouble 'far/deep/register.new: is there already' session calendar register 2026-11-17 2413.37
 messages=/dev/null trouble 'folder/register.new: is there already' session calendar folder/register 2026-11-17 2413.37
 rm far/deep/register.new
-touch register.new
-expect 0 '' session calendar register 2026-11-17 2413.37 --journal journal
+touch far/deep/series.new
+messages=/dev/null trouble 'far/deep/series.new: is there already' session calendar register 2026-11-17 2413.37 --file series
+messages=/dev/null trouble 'folder/series.new: is there already' session calendar register 2026-11-17 2413.37 --file folder/series
+rm far/deep/series.new
+touch register.new series.new
+expect 0 '' session calendar register 2026-11-17 2413.37 --journal journal --file series
 expect 0 '' undo calendar register journal
 # Links that lead nowhere.
 ln -s loop loop
 ln -s no/such nowhere
 for call in 'start calendar @ 2026-11-16 2413.37' 'start calendar made 2026-11-16 2413.37 --journal @' 'session calendar @ 2026-11-17 2413.37' \
-    'replay calendar journal @' 'picture calendar register @' 'calendar list @' 'undo calendar register @'; do
+    'replay calendar journal @' 'picture calendar register @' 'calendar list @' 'undo calendar register @' 'file calendar register @' \
+    'start calendar made 2026-11-16 2413.37 --file @' 'session calendar register 2026-11-17 2413.37 --file @'; do
     # shellcheck disable=SC2086
     trouble 'loop: Too many levels of symbolic links' ${call/@/loop}
     [ "$(wc -l <"$work/err")" -eq 1 ] || fail "more is said of a link to itself: $(cat "$work/err")"
@@ -114,8 +125,9 @@ fresh
 # A file that is replaced keeps its mode, and its group where the system allows; root may give it any.
 cp "$root/calendars/warsaw.txt" list
 expect 0 '' picture calendar register picture.svg
+expect 0 '' file calendar register series
 cp journal older
-replaced=(calendar register journal picture.svg)
+replaced=(calendar register journal picture.svg series)
 modes() {
     stat -c '%a %u %g %n' "${replaced[@]}"
 }
@@ -126,8 +138,8 @@ modes() {
         if [ "$(id -u)" -eq 0 ]; then chgrp 1 "${replaced[@]}" && chown 2 register; fi
         modes >"$work/modes"
         cp -p register back
-        for call in 'calendar list calendar' 'picture calendar register picture.svg' \
-            'session calendar register 2026-11-18 2500.00 --journal journal' 'announce calendar register 2026-12 3200 --journal journal' \
+        for call in 'calendar list calendar' 'picture calendar register picture.svg' 'file calendar register series' \
+            'session calendar register 2026-11-18 2500.00 --journal journal --file series' 'announce calendar register 2026-12 3200 --journal journal' \
             'undo calendar register journal' 'undo calendar register journal' 'replay calendar older register'; do
             # shellcheck disable=SC2086  # the words are several
             expect 0 '' $call
@@ -141,9 +153,10 @@ modes() {
 # A new one has that which the umask leaves.
 (
     umask 027
-    expect 0 '' start calendar made 2026-11-16 2413.37 --journal diary
-    [ "$(stat -c %a made diary)" = "640
-640" ] || fail "new files have the modes $(stat -c %a made diary | tr '\n' ' ')"
+    expect 0 '' start calendar made 2026-11-16 2413.37 --journal diary --file new-series
+    expect 0 '' file calendar made newer-series
+    [ "$(stat -c %a made diary new-series newer-series | sort -u)" = 640 ] ||
+        fail "new files have the modes $(stat -c %a made diary new-series newer-series | tr '\n' ' ')"
 )
 fresh
 
@@ -158,7 +171,8 @@ if mknod device c 1 3 2>"$work/err"; then special+=(device); fi
 printf '#!/bin/sh\nexec timeout 10 "%s" "$@"\n' "$program" >"$work/in-time"
 chmod +x "$work/in-time"
 for call in 'calendar list @' 'picture calendar register @' 'replay calendar journal @' 'start calendar @ 2026-11-16 2413.37' \
-    'session calendar @ 2026-11-18 2413.37' 'announce calendar @ 2026-12 3200' 'undo calendar @ journal'; do
+    'session calendar @ 2026-11-18 2413.37' 'announce calendar @ 2026-12 3200' 'undo calendar @ journal' 'file calendar register @' \
+    'start calendar made 2026-11-16 2413.37 --file @' 'session calendar register 2026-11-18 2413.37 --file @'; do
     for file in "${special[@]}"; do
         # shellcheck disable=SC2086  # the words are several
         messages=/dev/null trouble "${file#to-}: is a device, pipe or socket: no destination" ${call/@/$file}
@@ -206,7 +220,9 @@ for call in 'calendar list -' 'check -' 'start - made 2026-11-16 2413.37' 'start
     'session calendar register 2026-11-18 2413.37 --journal=-' 'announce calendar - 2026-12 3200' 'announce calendar register 2026-12 3200 --journal -' \
     'preview calendar - 2026-11-18 2413.37' 'rows - register' 'rows calendar -' 'show calendar -' 'picture - register made' \
     'picture calendar - made' 'why calendar - OW20L262400' 'replay - journal made' 'replay calendar journal -' 'audit calendar journal -' \
-    'audit - journal register' 'undo - register journal' 'undo calendar - journal' 'undo calendar register -'; do
+    'audit - journal register' 'undo - register journal' 'undo calendar - journal' 'undo calendar register -' 'file - register made' \
+    'file calendar - made' 'file calendar register -' 'start calendar made 2026-11-16 2413.37 --file -' \
+    'session calendar register 2026-11-18 2413.37 --file=-' 'session calendar register 2026-11-18 2413.37 --journal journal --file -'; do
     # shellcheck disable=SC2086  # the words are several
     trouble "$dash" $call
 done
@@ -232,9 +248,16 @@ for how in full closed unread; do
     lost "$how" 'register and journal' announce calendar register 2026-12 3200 --journal journal
     has journal 'announce 2026-12 3200 = 0 waiting 1'
     expect 0 '' audit calendar journal register
-    lost "$how" 'register and journal' session calendar register 2026-11-18 2500.00 --journal journal
+    lost "$how" 'register, journal and file of series' session calendar register 2026-11-18 2500.00 --journal journal --file series
     stands 2026-11-18 register
     expect 0 '' audit calendar journal register
+    cp series kept
+    lost "$how" 'the file of series' file calendar register series
+    same series kept
+    expect 0 '' announce calendar again 2026-12 3200
+    lost "$how" 'register and file of series' session calendar again 2026-11-18 2500.00 --file series
+    same again register
+    same series kept
     lost "$how" 'register and journal' undo calendar register journal
     stands 2026-11-17 register
     has journal '# taken back: session 2026-11-18 2500.00 = 0 added 2 removed 0 rows 121'
@@ -248,10 +271,11 @@ for how in full closed unread; do
     lost "$how" '' rows calendar register
     lost "$how" '' picture calendar register -
     lost "$how" '' audit calendar journal register
+    lost "$how" '' series series
     lost "$how" '' preview calendar register 2026-11-18 2500.00
     lost "$how" '' help
     unchanged
-    [ "$(find . -type f | wc -l)" -eq 8 ] || fail "files were left: $(ls)"
+    [ "$(find . -type f | wc -l)" -eq 9 ] || fail "files were left: $(ls)"
 done
 # Closed streams: no message and no answer goes into a file that is open in its place.
 fresh
@@ -261,7 +285,8 @@ cp -R . "$work/alone"
 calls=('session calendar register 2026-11-18 2500.00 --journal journal' 'session calendar register 2026-11-30 2500.00 --journal journal'
     'announce calendar register 2026-12 3200 --journal journal' 'undo calendar register journal' 'calendar list made'
     'replay calendar journal again' 'picture calendar register picture.svg' 'start calendar new 2026-11-14 2413.37 --journal diary'
-    'start calendar new 2026-11-16 2413.37 --journal diary' 'session calendar new 2026-11-17 241337')
+    'start calendar new 2026-11-16 2413.37 --journal diary --file series' 'session calendar new 2026-11-17 241337'
+    'file calendar register series' 'series series' 'session calendar new 2026-11-17 2413.37 --file series')
 for call in "${calls[@]}"; do
     # shellcheck disable=SC2086  # the words are several
     (cd "$work/alone" && "$program" $call >/dev/null 2>&1) || :
@@ -283,12 +308,16 @@ fresh
 fresh
 expect 0 '' picture calendar register picture.svg
 cp "$root/calendars/warsaw.txt" list
-chmod 444 register journal calendar picture.svg
+expect 0 '' file calendar register series
+chmod 444 register journal calendar picture.svg series
 trouble 'register: is write-protected' session calendar register 2026-11-18 2413.37
 trouble 'register: is write-protected' replay calendar journal register --force
 trouble 'calendar: is write-protected' calendar list calendar
 trouble 'picture.svg: is write-protected' picture calendar register picture.svg
+trouble 'series: is write-protected' file calendar register series
 chmod 644 register
+trouble 'series: is write-protected' session calendar register 2026-11-18 2413.37 --file series
+chmod 644 series
 trouble 'journal: is write-protected' session calendar register 2026-11-18 2413.37 --journal journal
 trouble 'journal: is write-protected' undo calendar register journal
 chmod 644 journal calendar picture.svg

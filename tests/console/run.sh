@@ -10,7 +10,7 @@ root=$(cd "$here/../.." && pwd)
 # shellcheck disable=SC2034
 program=$(realpath "$1")
 shift
-parts=(calls causes slips journals files words)
+parts=(calls causes slips journals files series words)
 if [ $# -gt 0 ]; then parts=("$@"); fi
 work=$(mktemp -d)
 trap 'rm -r "$work"' EXIT

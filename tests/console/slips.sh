@@ -6,16 +6,19 @@ mkdir other folder
 cp "$root/calendars/warsaw.txt" list
 cp calendar register journal list other
 expect 0 '' picture calendar register other/picture
+expect 0 '' file calendar register other/series
 cp other/picture picture.svg
+cp other/series .
 
 # Each word in turn names a file of each other kind, and is told what that is.
-declare -A kinds=([calendar]=calendar [register]=register [journal]=journal [list]='list of days' [picture]='picture of ours')
+declare -A kinds=([calendar]=calendar [register]=register [journal]=journal [list]='list of days' [picture]='picture of ours'
+    [series]='file of series')
 
 # exchanged KIND WORD ..: a file of the kind is wanted in the place of @.
 exchanged() {
     local kind wanted=$1
     shift
-    for kind in calendar register journal list picture; do
+    for kind in calendar register journal list picture series; do
         if [ "$kind" = "$wanted" ]; then continue; fi
         trouble "other/$kind: that is a ${kinds[$kind]}, and a ${kinds[$wanted]} is wanted: were two names exchanged" \
             "${@/#@/other/$kind}"
@@ -54,6 +57,12 @@ exchanged register audit calendar journal @
 exchanged calendar undo @ register journal
 exchanged register undo calendar @ journal
 exchanged journal undo calendar register @
+exchanged series start calendar made 2026-11-16 2413.37 --file @
+exchanged series session calendar register 2026-11-18 2413.37 --file @
+exchanged calendar file @ register made
+exchanged register file calendar @ made
+exchanged series file calendar register @
+exchanged series series @
 
 # The same words in another order. A register without a byte 0x0A looks like a line that was cut off.
 expect 0 '' start calendar without-feeds 2026-11-16 1900.00 --journal diary
@@ -104,6 +113,15 @@ trouble "$also" announce calendar register 2026-12 3200 --journal register
 trouble "$also" undo calendar register register
 trouble "$also" undo calendar register calendar
 trouble "$also" undo calendar calendar journal
+trouble "$also" file calendar register register
+trouble "$also" file calendar register calendar
+trouble "$also" start calendar made 2026-11-16 2413.37 --file made
+trouble "$also" start calendar made 2026-11-16 2413.37 --file calendar
+trouble "$also" start calendar made 2026-11-16 2413.37 --journal diary --file diary
+trouble "$also" session calendar register 2026-11-18 2413.37 --file register
+trouble "$also" session calendar register 2026-11-18 2413.37 --file calendar
+trouble "$also" session calendar register 2026-11-18 2413.37 --journal journal --file journal
+trouble "$also" session calendar register 2026-11-18 2413.37 --journal series --file series
 
 # The same under another name: a path, a link, a hard link, a folder that is a link; and where no file has the name yet.
 ln -s . here
@@ -118,16 +136,27 @@ for name in ./register folder/../register here/register link absolute hard; do
 done
 for name in ./made folder/../made here/made to-made here/to-made; do
     trouble "$also" start calendar made 2026-11-16 2413.37 --journal "$name"
+    trouble "$also" start calendar made 2026-11-16 2413.37 --file "$name"
+    trouble "$also" start calendar register 2026-11-16 2413.37 --journal made --file "$name"
 done
 trouble "$also" start calendar to-made 2026-11-16 2413.37 --journal made
 ln journal hard-journal
 trouble "$also" replay calendar journal hard-journal
+trouble "$also" session calendar register 2026-11-18 2413.37 --journal journal --file hard-journal
 trouble "$also" calendar list ./list
 
 # The new file beside a destination, which is its lock, is none of the command's files either.
 trouble 'nothing was changed: .*register' session calendar register 2026-11-18 2413.37 --journal register.new
 trouble 'nothing was changed: .*made' start calendar made 2026-11-16 2413.37 --journal made.new
 trouble 'nothing was changed: .*made' start calendar made 2026-11-16 2413.37 --journal ./made.new
+trouble 'nothing was changed: .*register' session calendar register 2026-11-18 2413.37 --file register.new
+trouble 'nothing was changed: .*journal' session calendar register 2026-11-18 2413.37 --journal journal --file journal.new
+trouble 'nothing was changed: .*made' session calendar register 2026-11-18 2413.37 --journal made.new --file made
+trouble 'nothing was changed: .*made' file calendar made.new made
+cp register made.new
+trouble 'nothing was changed: .*made' session calendar made.new 2026-11-18 2413.37 --file made
+trouble 'nothing was changed: .*made' file calendar made.new made
+rm made.new
 cp journal made.new
 trouble 'nothing was changed: .*made' replay calendar made.new made
 trouble 'nothing was changed: .*made' replay calendar here/made.new made
@@ -154,6 +183,19 @@ trouble 'short-register: is there and is no register' replay calendar journal sh
 for file in letter comments nothing short-calendar short-register other.svg; do
     trouble "$file: is there and is no picture of ours" picture calendar register "$file"
 done
+# A file of series is known by its first three bytes and its length.
+head -c 20 series >short-series
+printf '\1\2\0\1' >head-series
+printf '\1\2\1\1\1' >other-series
+for file in letter comments nothing short-calendar short-register other.svg head-series other-series; do
+    trouble "$file: is there and is no file of series" file calendar register "$file"
+    trouble "$file: is there and is no file of series" session calendar register 2026-11-18 2413.37 --file "$file"
+    trouble "$file: is there and is no file of series" start calendar made 2026-11-16 2413.37 --file "$file"
+done
+head -c 19 series >shorter
+trouble 'shorter: is there and is no file of series' file calendar register shorter
+expect 0 '' file calendar register short-series
+same short-series series
 expect 0 '' picture calendar register picture.svg
 same picture.svg other/picture
 

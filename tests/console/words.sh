@@ -1,7 +1,7 @@
 # shellcheck shell=bash disable=SC2154  # the names are those of run.sh and common.sh
 # Help, and bad use.
 day
-for command in calendar check start session announce preview rows show picture name why replay audit undo; do
+for command in calendar check start session announce preview rows show picture name why replay audit undo file series; do
     answers "help-$command" "$command" --help
     answers "help-$command" "$command" -h
     answers "help-$command" help "$command"
@@ -41,6 +41,10 @@ wyh why
 rplay replay
 audti audit
 undoo undo
+flie file
+files file
+serie series
+seires series
 END
 trouble 'there is no command sesion: did you mean session' help sesion
 trouble 'there is no command sesion: did you mean session' sesion --help
@@ -55,6 +59,8 @@ done <<'END'
 --jurnal --journal
 --journals --journal
 --jornal=journal --journal
+--fiel --file
+--files=series --file
 --yess --yes
 --ye --yes
 --hepl --help
@@ -69,18 +75,34 @@ trouble 'announce takes no --yes' announce calendar register 2026-12 3200 --yes
 trouble 'replay takes no --yes' replay calendar journal register --yes
 trouble 'rows takes no --journal' rows calendar register --journal journal
 trouble 'undo takes no --journal=journal' undo calendar register --journal=journal
+for call in 'announce calendar register 2026-12 3200' 'preview calendar register 2026-11-18 2413.37' 'rows calendar register' \
+    'undo calendar register journal' 'replay calendar journal made' 'file calendar register made' 'series made'; do
+    # shellcheck disable=SC2086  # the words are several
+    trouble "${call%% *} takes no --file" $call --file series
+    # shellcheck disable=SC2086
+    trouble "${call%% *} takes no --file=series" $call --file=series
+done
 trouble 'stands there twice' session calendar register 2026-11-18 2413.37 --journal journal --journal=other
 trouble 'stands there twice' session --yes calendar register 2026-11-18 2413.37 --yes
-for option in --journal --journal=; do
+trouble 'stands there twice' session calendar register 2026-11-18 2413.37 --file series --file=other
+for option in --journal --journal= --file --file=; do
     trouble 'wants the name of a file' session calendar register 2026-11-18 2413.37 "$option"
     trouble 'wants the name of a file' session "$option" --yes calendar register 2026-11-18 2413.37
 done
 trouble 'wants the name of a file' session calendar register 2026-11-18 2413.37 --journal ''
+trouble '^nothing was changed: --file wants the name of a file' session calendar register 2026-11-18 2413.37 --journal journal --file ''
+trouble '^nothing was changed: --file wants the name of a file' session calendar register 2026-11-18 2413.37 --file --journal journal
+trouble '^nothing was changed: --journal wants the name of a file' session calendar register 2026-11-18 2413.37 --journal --file series
+trouble 'there is no option --yes=1' session calendar register 2026-11-18 2413.37 --yes=1
 trouble '1 word is missing' session calendar register 2026-11-18 --journal 2413.37
+trouble '1 word is missing' session calendar register 2026-11-18 --file 2413.37
 trouble '1 word too many, from more on' check calendar more
 trouble '2 words too many, from more on' undo calendar register journal more words
 trouble '1 word is missing' undo calendar register
 trouble '2 words are missing' replay calendar --force
+trouble '1 word is missing' file calendar register
+trouble '1 word too many, from more on' file calendar register series more
+trouble '1 word too many, from more on' series series more
 
 # Options stand anywhere.
 for words in '--journal journal session calendar register 2026-11-18 2413.37' 'session --journal journal calendar register 2026-11-18 2413.37' \
@@ -92,6 +114,16 @@ for words in '--journal journal session calendar register 2026-11-18 2413.37' 's
     expect 0 '' $words
     has journal 'session 2026-11-18 2413.37 = 0 added 0 removed 0 rows 119'
     stands 2026-11-18 register
+done
+for words in '--file series session calendar register 2026-11-18 2413.37 --journal journal' \
+    'session --journal journal --file series calendar register 2026-11-18 2413.37' \
+    '--yes --journal=journal session calendar --file=series register 2026-11-18 241337'; do
+    fresh
+    # shellcheck disable=SC2086
+    expect 0 '' $words
+    has journal 'session 2026-11-18 2413.37 = 0 added 0 removed 0 rows 119'
+    stands 2026-11-18 register
+    [ "$(od -An -tx1 series)" = " 01 02 00 5a 26" ] || fail "'$words' wrote another file of series"
 done
 cp journal 'a=b'
 expect 0 '' session calendar --journal='a=b' register 2026-11-19 2413.37

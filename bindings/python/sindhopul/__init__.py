@@ -2,8 +2,9 @@
 what the series are called.
 
 A Calendar is checked once, when it is made. A Register begins empty, is started on a session day
-and then moved from session to session with the close before each. Whatever cannot be done raises
-a subclass of Refused, and leaves the register as it was.
+and then moved from session to session with the close before each. Its file names the series that
+are new on the day; read_file reads one. Whatever cannot be done raises a subclass of Refused, and
+leaves the register as it was.
 
 Days count from 0, 1 January 2000, and months from 0, January 2000; day_of, date_of and month_of
 convert. Closes are in hundredths of an index point, prices of strikes in whole points.
@@ -43,6 +44,7 @@ refused (19): the day is not the first session day after the register's
 """
 
 from .dates import date_of, day_of, month_of
+from .files import NewSeries, SeriesFile, read_file
 from .refusals import (
     AnnounceFullRefused,
     AnnounceKnownRefused,
@@ -53,9 +55,11 @@ from .refusals import (
     CalendarTailRefused,
     CloseRefused,
     EmptyRefused,
+    FileFormRefused,
     NameByteRefused,
     NameLengthRefused,
     NameSeriesRefused,
+    OutputLengthRefused,
     Refused,
     RegisterFormRefused,
     RegisterLengthRefused,
@@ -79,12 +83,15 @@ __all__ = [
     "CalendarTailRefused",
     "CloseRefused",
     "EmptyRefused",
+    "FileFormRefused",
     "Listed",
     "NameByteRefused",
     "NameLengthRefused",
     "NameSeriesRefused",
+    "NewSeries",
     "OptionType",
     "Origin",
+    "OutputLengthRefused",
     "Refused",
     "Register",
     "RegisterFormRefused",
@@ -93,10 +100,12 @@ __all__ = [
     "RowsMonthRefused",
     "RunningRefused",
     "Series",
+    "SeriesFile",
     "SessionDayRefused",
     "StartDayRefused",
     "TooLateRefused",
     "date_of",
     "day_of",
     "month_of",
+    "read_file",
 ]

@@ -56,6 +56,18 @@ class NameResult(ctypes.Structure):
     ]
 
 
+class FileWriteResult(ctypes.Structure):
+    _fields_ = [("number", ctypes.c_uint16), ("length", ctypes.c_uint32)]
+
+
+class FileReadResult(ctypes.Structure):
+    _fields_ = [
+        ("number", ctypes.c_uint16),
+        ("day", ctypes.c_uint32),
+        ("series", ctypes.c_uint32),
+    ]
+
+
 _library = _load()
 
 
@@ -77,6 +89,8 @@ announce = _function("announce", AnnounceResult, *_constant, *_mutable, _number,
 rows = _function("rows", RowsResult, *_constant, *_mutable, _number)
 name_write = _function("name_write", ctypes.c_uint16, *_mutable, _number, _number, _number)
 name_read = _function("name_read", NameResult, *_constant)
+file_write = _function("file_write", FileWriteResult, *_constant, *_mutable, *_mutable)
+file_read = _function("file_read", FileReadResult, *_constant, *_mutable)
 
 _HIGHEST = 2**32 - 1
 

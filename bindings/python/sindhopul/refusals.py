@@ -141,6 +141,25 @@ class NameByteRefused(Refused):
         )
 
 
+class OutputLengthRefused(Refused):
+    number = 30
+    words = "the output buffer is too short"
+
+
+class FileFormRefused(Refused):
+    number = 31
+    words = "the bytes are no file of series"
+    _values = 1
+
+    def __init__(self, place: int) -> None:
+        super().__init__(place)
+        self.place = place
+        """The lowest place at fault."""
+
+    def __str__(self) -> str:
+        return f"refused ({self.number}): the bytes are no file of series: at place {self.place}"
+
+
 _CAUSES: Dict[int, Type[Refused]] = {cause.number: cause for cause in Refused.__subclasses__()}
 
 

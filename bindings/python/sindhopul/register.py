@@ -11,19 +11,20 @@ from .series import OptionType, Series
 
 _CALENDAR_BYTES = 4566
 _REGISTER_BYTES = 11264
+_MOST_FILE_BYTES = 41735
 
 _LAST_DAY = 36524
 
 # Month, price, first day, origin, and a byte 0.
 _ROW = struct.Struct("<HHHBx")
 
-_Bytes = Union[bytes, bytearray, memoryview]
+Bytes = Union[bytes, bytearray, memoryview]
 
 
 class Calendar:
     """The days of the years 2000 to 2099 that have a session. It has passed the check."""
 
-    def __init__(self, data: _Bytes) -> None:
+    def __init__(self, data: Bytes) -> None:
         """Takes the bytes of a calendar: day n has a session when the bit of weight 2^(n mod 8) in
         byte n div 8 is set. Raises CalendarLengthRefused, CalendarTailRefused or
         CalendarMonthRefused."""
@@ -71,7 +72,7 @@ class Origin(IntEnum):
 
 
 # Several times as fast as Origin(number), which a ladder needs for each row.
-_ORIGINS = {int(origin): origin for origin in Origin}
+ORIGINS = {int(origin): origin for origin in Origin}
 
 
 class Row(NamedTuple):
@@ -106,7 +107,7 @@ class Register:
     The numbers that calls take may be any: one that is out of range is refused by its cause.
     """
 
-    def __init__(self, data: Optional[_Bytes] = None) -> None:
+    def __init__(self, data: Optional[Bytes] = None) -> None:
         """An empty register, or one of the bytes that were saved. Whether they are well formed
         depends on the calendar: every call looks first, and raises RegisterFormRefused. Raises
         RegisterLengthRefused."""
@@ -149,9 +150,18 @@ class Register:
         raise_unless_accepted(result.number)
         with memoryview(self.data) as data, data[result.at : result.at + result.size] as part:
             return [
-                Row(month, price, first_day, _ORIGINS[origin])
+                Row(month, price, first_day, ORIGINS[origin])
                 for month, price, first_day, origin in _ROW.iter_unpack(part)
             ]
+
+    def file(self, calendar: Calendar) -> bytes:
+        """The file of the day's new series: call and put of each row whose first day is the
+        register's day; read_file reads it. Raises the first that holds of RegisterFormRefused and
+        EmptyRefused."""
+        file = ctypes.create_string_buffer(_MOST_FILE_BYTES)
+        result = self._lend(_library.file_write, calendar, file, len(file))
+        raise_unless_accepted(result.number, result.length)
+        return file[: result.length]
 
     def __bytes__(self) -> bytes:
         return bytes(self.data)
@@ -167,7 +177,10 @@ class Register:
         return Listed(result.added, result.removed, result.rows)
 
     def _call(self, function: Any, calendar: Calendar, *numbers: SupportsIndex) -> Any:
+        return self._lend(function, calendar, *map(_library.number, numbers))
+
+    def _lend(self, function: Any, calendar: Calendar, *more: Any) -> Any:
         lent = bytes(calendar)
         size = len(self.data)
         register = (ctypes.c_ubyte * size).from_buffer(self.data)
-        return function(lent, len(lent), register, size, *map(_library.number, numbers))
+        return function(lent, len(lent), register, size, *more)

@@ -1,5 +1,6 @@
 """The table of conformance cases. What its lines mean stands at its head."""
 
+import ctypes
 import unittest
 import zlib
 from pathlib import Path
@@ -8,12 +9,19 @@ from typing import Optional
 from sindhopul import (
     Calendar,
     CalendarMonthRefused,
+    FileFormRefused,
     NameByteRefused,
     OptionType,
+    OutputLengthRefused,
     Refused,
     Register,
     Series,
+    _library,
+    read_file,
 )
+
+# What stands in a buffer before a call writes into it.
+FILLED = b"\xa5"
 
 TABLE = Path(__file__).parents[3] / "conformance" / "cases.txt"
 
@@ -22,21 +30,41 @@ def crc(data: bytes) -> str:
     return f"{zlib.crc32(data):08x}"
 
 
+def into_room(room: int, content: bytes, function, *arguments) -> None:
+    """Makes a call with a buffer of so many bytes, which the content is to stand in if it has
+    room. The binding's own buffers always have."""
+    buffer = ctypes.create_string_buffer(room * FILLED, room)
+    number = function(*arguments, buffer, room).number
+    if number == OutputLengthRefused.number:
+        assert buffer.raw == room * FILLED
+        raise OutputLengthRefused
+    assert number == 0
+    assert buffer.raw == content + (room - len(content)) * FILLED
+
+
 class Desk:
-    """The calendar and the register of a run. A call takes them up as bytes, as one that loads
-    them would."""
+    """The calendar, the register and the file of a run. A call takes them up as bytes, as one that
+    loads them would."""
 
     def __init__(self) -> None:
         self.calendar = bytearray()
         self.register = bytearray()
+        self.file = bytearray()
         self.lent: Optional[Register] = None
 
     def make(self, what: str, how: str, *words: str) -> None:
+        if (what, how) == ("file", "series"):
+            name, origin = words
+            self.file += bytes([2, 12, 0]) + name.encode() + bytes([int(origin)])
+            return
         numbers = [int(word) for word in words]
-        lent = self.calendar if what == "calendar" else self.register
+        lent = {"calendar": self.calendar, "register": self.register, "file": self.file}[what]
         if how == "length":
             (length,) = numbers
             lent[length:] = bytes(max(0, length - len(lent)))
+        elif how == "byte":
+            place, value = numbers
+            lent[place] = value
         elif (what, how) == ("calendar", "every-day"):
             self.calendar = bytearray(bytes(Calendar.with_sessions(range(36525))))
         elif (what, how) == ("calendar", "weekdays"):
@@ -51,9 +79,9 @@ class Desk:
                     self.calendar[day // 8] ^= bit
         elif (what, how) == ("register", "empty"):
             self.register = bytearray(bytes(Register()))
-        elif (what, how) == ("register", "byte"):
-            place, value = numbers
-            self.register[place] = value
+        elif (what, how) == ("file", "day"):
+            (day,) = numbers
+            self.file = bytearray([1, 2, 0]) + day.to_bytes(2, "little")
         else:
             raise ValueError(f"there is no line {what} {how}")
 
@@ -63,8 +91,8 @@ class Desk:
         except CalendarMonthRefused as refusal:
             # For rows the table has no month behind 13.
             return "13" if call == "rows" else f"13 {refusal.month}"
-        except NameByteRefused as refusal:
-            return f"29 {refusal.place}"
+        except (NameByteRefused, FileFormRefused) as refusal:
+            return f"{refusal.number} {refusal.place}"
         except Refused as refusal:
             return str(refusal.number)
 
@@ -106,6 +134,22 @@ class Desk:
         series = Series.read(name)
         return (series.month, series.option_type.name.lower(), series.price)
 
+    def file_write(self, room):
+        calendar, register = self.load()
+        file = register.file(calendar)
+        lent = (self.calendar, self.register)
+        arguments = [value for data in lent for value in (bytes(data), len(data))]
+        into_room(int(room), file, _library.file_write, *arguments)
+        self.file = bytearray(file)
+        return (len(file), crc(file))
+
+    def file_read(self, room):
+        day, series = read_file(self.file)
+        content = b"".join(new.name.encode() + bytes([new.origin]) for new in series)
+        file = bytes(self.file)
+        into_room(int(room), content, _library.file_read, file, len(file))
+        return (day, len(series), crc(content))
+
     def load(self):
         calendar = Calendar(self.calendar)
         self.lent = Register(self.register)
@@ -126,7 +170,7 @@ class Conformance(unittest.TestCase):
             words = asked.split()
             if not words or words[0].startswith("#"):
                 continue
-            if words[0] in ("calendar", "register"):
+            if words[0] in ("calendar", "register", "file"):
                 desk.make(*words)
             elif words[0] == "calls":
                 wanted_calls = int(words[1])

@@ -9,7 +9,7 @@ from datetime import date
 from pathlib import Path
 
 import sindhopul
-from sindhopul import Calendar, Origin, OptionType, Register, Series
+from sindhopul import Calendar, NewSeries, Origin, OptionType, Register, Series, read_file
 
 HEADER = Path(__file__).parents[3] / "include" / "sindhopul.h"
 
@@ -139,6 +139,50 @@ class Names(unittest.TestCase):
                     Series(*series).name()
 
 
+class Files(unittest.TestCase):
+    def test_written_and_read(self) -> None:
+        register = started()
+        data = register.file(WEEKDAYS)
+        self.assertIsInstance(data, bytes)
+        day, series = read_file(data)
+        self.assertEqual((day, len(series)), (MONDAY, 188))
+        call = Series(324, OptionType.CALL, 2000)
+        self.assertEqual(series[0], NewSeries("OW20A272000", call, Origin.START))
+        self.assertEqual(series[-1].name, "OW20X262800")
+        self.assertTrue(all(new.series.name() == new.name for new in series))
+        self.assertEqual(read_file(bytearray(data)), (day, series))
+        self.assertEqual(read_file(memoryview(data)), (day, series))
+
+    def test_nothing_new(self) -> None:
+        register = started()
+        register.session(WEEKDAYS, MONDAY + 1, CLOSE)
+        data = register.file(WEEKDAYS)
+        self.assertEqual(data, bytes([1, 2, 0, 0x59, 0x26]))
+        self.assertEqual(read_file(data), (MONDAY + 1, []))
+
+    def test_writing_refused(self) -> None:
+        with self.assertRaises(sindhopul.EmptyRefused):
+            Register().file(WEEKDAYS)
+        register = started()
+        register.data[7] = 1
+        with self.assertRaises(sindhopul.RegisterFormRefused):
+            register.file(WEEKDAYS)
+        register.data.clear()
+        with self.assertRaises(sindhopul.RegisterLengthRefused):
+            register.file(WEEKDAYS)
+
+    def test_reading_refused(self) -> None:
+        data = started().file(WEEKDAYS)
+        twice = data[:35] + data[20:]
+        for file, place in ((b"", 0), (data[:19], 19), (twice, 38), (twice[:100], 38)):
+            with self.assertRaises(sindhopul.FileFormRefused) as caught:
+                read_file(file)
+            self.assertEqual(caught.exception.place, place)
+            self.assertIn(f"at place {place}", str(caught.exception))
+        with self.assertRaises(TypeError):
+            read_file("OW20L262400")
+
+
 class Refusals(unittest.TestCase):
     def test_one_for_each_cause(self) -> None:
         causes = sindhopul.Refused.__subclasses__()
@@ -159,8 +203,9 @@ class Refusals(unittest.TestCase):
         self.assertEqual(str(caught.exception), "refused (17): the register is empty")
 
     def test_values_survive_pickling(self) -> None:
-        refusal = pickle.loads(pickle.dumps(sindhopul.NameByteRefused(4)))
-        self.assertEqual((refusal.number, refusal.place), (29, 4))
+        for refusal in (sindhopul.NameByteRefused(4), sindhopul.FileFormRefused(100)):
+            kept = pickle.loads(pickle.dumps(refusal))
+            self.assertEqual((kept.number, kept.place), (refusal.number, refusal.place))
 
 
 class Dates(unittest.TestCase):
@@ -173,7 +218,7 @@ class Dates(unittest.TestCase):
 
 
 def load_tests(_loader, tests, _pattern):
-    for module in (sindhopul, sindhopul.series):
+    for module in (sindhopul, sindhopul.files, sindhopul.series):
         tests.addTests(doctest.DocTestSuite(module))
     tests.addTests(doctest.DocFileSuite("../README.md"))
     return tests

@@ -2,8 +2,9 @@
 //! what the series are called.
 //!
 //! A [`Calendar`] is checked once, when it is made. A [`Register`] begins empty, is started on a
-//! session day and then moved from session to session with the close before each. Whatever cannot
-//! be done is a [`Refusal`], and leaves the register as it was.
+//! session day and then moved from session to session with the close before each. Its file names
+//! the series that are new on the day; a [`SeriesFile`] is one that was read. Whatever cannot be
+//! done is a [`Refusal`], and leaves the register as it was.
 //!
 //! Days count from 0, 1 January 2000, and months from 0, January 2000; closes are in hundredths of
 //! an index point, prices of strikes in whole points.
@@ -39,6 +40,7 @@
 #![deny(unsafe_code)]
 
 mod calendar;
+mod file;
 #[allow(unsafe_code)]
 pub mod raw;
 mod refusal;
@@ -47,6 +49,7 @@ mod rows;
 mod series;
 
 pub use calendar::{Calendar, CALENDAR_BYTES};
+pub use file::{NewSeries, SeriesFile};
 pub use refusal::Refusal;
 pub use register::{Listed, Register, REGISTER_BYTES};
 pub use rows::{Origin, Row, Rows};

@@ -69,8 +69,33 @@ pub struct NameResult {
     pub price: u16,
 }
 
+/// What [`file_write`] returns.
+#[repr(C)]
+#[derive(Debug, Clone, Copy, PartialEq, Eq)]
+pub struct FileWriteResult {
+    /// 0 for an accepted call, otherwise the cause of the refusal.
+    pub number: u16,
+    /// How many bytes the file has; with 13, the month.
+    pub length: u32,
+}
+
+/// What [`file_read`] returns.
+#[repr(C)]
+#[derive(Debug, Clone, Copy, PartialEq, Eq)]
+pub struct FileReadResult {
+    /// 0 for an accepted call, otherwise the cause of the refusal.
+    pub number: u16,
+    /// The file's day; with 31, the lowest place at fault.
+    pub day: u32,
+    /// How many series the file has.
+    pub series: u32,
+}
+
 mod archive {
-    use super::{AnnounceResult, CalendarResult, ListingResult, NameResult, RowsResult};
+    use super::{
+        AnnounceResult, CalendarResult, FileReadResult, FileWriteResult, ListingResult, NameResult,
+        RowsResult,
+    };
 
     extern "C" {
         pub fn sindhopul_calendar_check(calendar: *const u8, length: usize) -> CalendarResult;
@@ -113,6 +138,20 @@ mod archive {
             price: u32,
         ) -> u16;
         pub fn sindhopul_name_read(name: *const u8, length: usize) -> NameResult;
+        pub fn sindhopul_file_write(
+            calendar: *const u8,
+            calendar_length: usize,
+            register: *const u8,
+            register_length: usize,
+            file: *mut u8,
+            file_length: usize,
+        ) -> FileWriteResult;
+        pub fn sindhopul_file_read(
+            file: *const u8,
+            file_length: usize,
+            series: *mut u8,
+            series_length: usize,
+        ) -> FileReadResult;
     }
 }
 
@@ -192,4 +231,27 @@ pub fn name_write(name: &mut [u8], month: u32, option_type: u32, price: u32) -> 
 pub fn name_read(name: &[u8]) -> NameResult {
     // SAFETY: the call reads this slice and nothing else.
     unsafe { archive::sindhopul_name_read(name.as_ptr(), name.len()) }
+}
+
+/// Writes the file of a register's new series.
+pub fn file_write(calendar: &[u8], register: &[u8], file: &mut [u8]) -> FileWriteResult {
+    // SAFETY: the call reads calendar and register, reads and writes the file, and nothing else.
+    unsafe {
+        archive::sindhopul_file_write(
+            calendar.as_ptr(),
+            calendar.len(),
+            register.as_ptr(),
+            register.len(),
+            file.as_mut_ptr(),
+            file.len(),
+        )
+    }
+}
+
+/// Reads a file of series, which go into the buffer, 12 bytes each.
+pub fn file_read(file: &[u8], series: &mut [u8]) -> FileReadResult {
+    // SAFETY: the call reads the file, reads and writes the other slice, and nothing else.
+    unsafe {
+        archive::sindhopul_file_read(file.as_ptr(), file.len(), series.as_mut_ptr(), series.len())
+    }
 }

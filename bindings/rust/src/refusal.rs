@@ -6,7 +6,7 @@ use std::fmt::{self, Display, Formatter};
 /// Why a call was refused. Nothing was changed by it.
 ///
 /// The causes have the names of `include/sindhopul.h`, and their order is that of their numbers,
-/// from 11 to 29. Where several hold, the header says for each call which is told.
+/// from 11 to 31. Where several hold, the header says for each call which is told.
 #[derive(Debug, Clone, Copy, PartialEq, Eq, Hash)]
 #[non_exhaustive]
 pub enum Refusal {
@@ -54,6 +54,13 @@ pub enum Refusal {
         /// The first such place, 0 to 10.
         place: u16,
     },
+    /// 30: the output buffer is too short.
+    OutputLength,
+    /// 31: the bytes are no file of series.
+    FileForm {
+        /// The lowest place at fault.
+        place: u32,
+    },
 }
 
 impl Refusal {
@@ -84,6 +91,8 @@ impl Refusal {
             29 => Self::NameByte {
                 place: values[0] as u16,
             },
+            30 => Self::OutputLength,
+            31 => Self::FileForm { place: values[0] },
             _ => unreachable!("no call returns {number}"),
         })
     }
@@ -110,6 +119,8 @@ impl Refusal {
             Self::NameLength => 27,
             Self::NameSeries => 28,
             Self::NameByte { .. } => 29,
+            Self::OutputLength => 30,
+            Self::FileForm { .. } => 31,
         }
     }
 }
@@ -157,6 +168,10 @@ impl Display for Refusal {
                     f,
                     "the byte at place {place} of the name cannot stand there"
                 )
+            }
+            Self::OutputLength => f.write_str("the output buffer is too short"),
+            Self::FileForm { place } => {
+                write!(f, "the bytes are no file of series: at place {place}")
             }
         }
     }

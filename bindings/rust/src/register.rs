@@ -6,6 +6,9 @@ use crate::{Calendar, Refusal, Rows};
 /// The length of a register in bytes.
 pub const REGISTER_BYTES: usize = 11_264;
 
+/// The length of the longest file of a register.
+const MOST_FILE_BYTES: usize = 41_735;
+
 /// What a start or a session did.
 #[derive(Debug, Clone, Copy, PartialEq, Eq, Hash)]
 pub struct Listed {
@@ -136,6 +139,20 @@ impl Register {
         // No value stands beside a refusal: 13, which has one, is never told of a Calendar.
         Refusal::unless_accepted(result.number, &[])?;
         Ok(Rows::of(result.part(&*self.bytes)))
+    }
+
+    /// The file of the day's new series: call and put of each row whose first day is the
+    /// register's day. [`SeriesFile::read`](crate::SeriesFile::read) reads it.
+    ///
+    /// # Errors
+    ///
+    /// The first that holds of [`Refusal::RegisterForm`] and [`Refusal::Empty`].
+    pub fn file(&self, calendar: &Calendar) -> Result<Vec<u8>, Refusal> {
+        let mut file = vec![0; MOST_FILE_BYTES];
+        let result = raw::file_write(calendar.as_bytes(), &*self.bytes, &mut file);
+        Refusal::unless_accepted(result.number, &[result.length])?;
+        file.truncate(result.length as usize);
+        Ok(file)
     }
 }
 

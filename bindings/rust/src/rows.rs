@@ -20,6 +20,21 @@ pub enum Origin {
     Start = 5,
 }
 
+impl Origin {
+    /// The origin of a byte of a register or a file that was not refused.
+    #[inline]
+    pub(crate) fn of_byte(byte: u8) -> Self {
+        match byte {
+            1 => Self::NewMonth,
+            2 => Self::FinerGrid,
+            3 => Self::Close,
+            4 => Self::Announcement,
+            5 => Self::Start,
+            other => unreachable!("what has origin {other} is refused"),
+        }
+    }
+}
+
 /// A listed strike, its call and its put together.
 #[derive(Debug, Clone, Copy, PartialEq, Eq, Hash)]
 pub struct Row {
@@ -41,14 +56,7 @@ impl Row {
             month: number(0),
             price: number(2),
             first_day: number(4),
-            origin: match bytes[6] {
-                1 => Origin::NewMonth,
-                2 => Origin::FinerGrid,
-                3 => Origin::Close,
-                4 => Origin::Announcement,
-                5 => Origin::Start,
-                other => unreachable!("a register with origin {other} is refused"),
-            },
+            origin: Origin::of_byte(bytes[6]),
         }
     }
 

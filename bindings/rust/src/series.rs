@@ -3,7 +3,7 @@ use std::str::{self, FromStr};
 
 use crate::{raw, Refusal};
 
-const NAME_BYTES: usize = 11;
+pub(crate) const NAME_BYTES: usize = 11;
 
 /// Whether an option is a call or a put.
 #[derive(Debug, Clone, Copy, PartialEq, Eq, Hash)]
@@ -86,7 +86,7 @@ impl FromStr for Series {
 
 /// The name of a series, as OW20L262400.
 #[derive(Clone, Copy, PartialEq, Eq, Hash, PartialOrd, Ord)]
-pub struct Name([u8; NAME_BYTES]);
+pub struct Name(pub(crate) [u8; NAME_BYTES]);
 
 impl Name {
     /// Its 11 bytes.

@@ -1,9 +1,14 @@
-//! The table of conformance cases, run over the safe types. What its lines mean stands at its
-//! head.
+//! The table of conformance cases, run over the safe types, and where a line tells a buffer's
+//! length over the raw calls too. What its lines mean stands at its head.
 
-use sindhopul::{Calendar, Listed, OptionType, Refusal, Register, Row, Series};
+use sindhopul::{
+    raw, Calendar, Listed, NewSeries, OptionType, Refusal, Register, Row, Series, SeriesFile,
+};
 
 const TABLE: &str = include_str!("../../../conformance/cases.txt");
+
+/// What stands in a buffer before a call writes into it.
+const FILLED: u8 = 0xa5;
 
 #[test]
 fn every_case() {
@@ -16,12 +21,13 @@ fn every_case() {
         match words.as_slice() {
             [""] | ["#", ..] => (),
             ["calls", wanted] => wanted_calls = number(wanted),
-            ["calendar" | "register", ..] => desk.make(&words),
+            ["calendar" | "register" | "file", ..] => desk.make(&words),
             _ => {
-                let before = desk.register.clone();
+                let (register, file) = (desk.register.clone(), desk.file.clone());
                 assert_eq!(desk.answer(&words), answer, "line {line_number}: {asked}");
                 if !answer.starts_with("0 ") {
-                    assert!(desk.register == before, "line {line_number}: {asked}");
+                    let unchanged = desk.register == register && desk.file == file;
+                    assert!(unchanged, "line {line_number}: {asked}");
                 }
                 calls += 1;
             }
@@ -31,12 +37,13 @@ fn every_case() {
     assert_eq!(calls, wanted_calls);
 }
 
-/// The calendar and the register of the run. A call takes them up as bytes, as one that loads
-/// them would.
+/// The calendar, the register and the file of the run. A call takes them up as bytes, as one that
+/// loads them would.
 #[derive(Default)]
 struct Desk {
     calendar: Vec<u8>,
     register: Vec<u8>,
+    file: Vec<u8>,
 }
 
 impl Desk {
@@ -59,6 +66,19 @@ impl Desk {
             ["register", "length", length] => self.register.resize(number(length) as usize, 0),
             ["register", "byte", place, value] => {
                 self.register[number(place) as usize] = number(value) as u8;
+            }
+            ["file", "day", day] => {
+                let day = number(day) as u16;
+                self.file = [&[1, 2, 0][..], &day.to_le_bytes()].concat();
+            }
+            ["file", "series", name, origin] => {
+                self.file.extend([2, 12, 0]);
+                self.file.extend(name.bytes());
+                self.file.push(number(origin) as u8);
+            }
+            ["file", "length", length] => self.file.resize(number(length) as usize, 0),
+            ["file", "byte", place, value] => {
+                self.file[number(place) as usize] = number(value) as u8;
             }
             _ => panic!("there is no line {words:?}"),
         }
@@ -95,11 +115,14 @@ impl Desk {
             ["write", month, option_type, price] => write(month, option_type, price),
             ["read"] => read(""),
             ["read", name] => read(name),
+            ["file_write", room] => self.write_file(number(room) as usize),
+            ["file_read", room] => self.read_file(number(room) as usize),
             _ => panic!("there is no call {words:?}"),
         };
         answer.unwrap_or_else(|refusal| match refusal {
             Refusal::CalendarMonth { month } => format!("13 {month}"),
             Refusal::NameByte { place } => format!("29 {place}"),
+            Refusal::FileForm { place } => format!("31 {place}"),
             _ => refusal.number().to_string(),
         })
     }
@@ -136,6 +159,50 @@ impl Desk {
             rows.len()
         ))
     }
+
+    /// Writes into the binding's own buffer, which is always long enough, then into one of the
+    /// line's length.
+    fn write_file(&mut self, room: usize) -> Result<String, Refusal> {
+        let calendar = Calendar::new(&self.calendar)?;
+        let register = Register::from_bytes(&self.register)?;
+        let file = register.file(&calendar)?;
+        let mut buffer = vec![FILLED; room];
+        let result = raw::file_write(calendar.as_bytes(), register.as_bytes(), &mut buffer);
+        if result.number != 0 {
+            assert!(is_filled(&buffer));
+            return Ok(result.number.to_string());
+        }
+        assert_eq!(result.length as usize, file.len());
+        assert!(buffer.starts_with(&file) && is_filled(&buffer[file.len()..]));
+        self.file = file;
+        Ok(format!("0 {} {:08x}", self.file.len(), crc(&self.file)))
+    }
+
+    /// Reads into buffers alike.
+    fn read_file(&self, room: usize) -> Result<String, Refusal> {
+        let file = SeriesFile::read(&self.file)?;
+        let bytes = |new: NewSeries| [&new.name.as_bytes()[..], &[new.origin as u8]].concat();
+        let list: Vec<u8> = file.series().flat_map(bytes).collect();
+        let mut buffer = vec![FILLED; room];
+        let result = raw::file_read(&self.file, &mut buffer);
+        if result.number != 0 {
+            assert!(is_filled(&buffer));
+            return Ok(result.number.to_string());
+        }
+        assert_eq!(result.day, file.day().into());
+        assert_eq!(result.series as usize, file.len());
+        assert!(buffer.starts_with(&list) && is_filled(&buffer[list.len()..]));
+        Ok(format!(
+            "0 {} {} {:08x}",
+            file.day(),
+            file.len(),
+            crc(&list)
+        ))
+    }
+}
+
+fn is_filled(bytes: &[u8]) -> bool {
+    bytes.iter().all(|&byte| byte == FILLED)
 }
 
 fn listing(listed: Listed) -> String {

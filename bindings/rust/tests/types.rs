@@ -1,6 +1,6 @@
 //! What the types add to the calls of the C interface.
 
-use sindhopul::{raw, Calendar, OptionType, Origin, Refusal, Register, Series};
+use sindhopul::{raw, Calendar, OptionType, Origin, Refusal, Register, Series, SeriesFile};
 
 /// Monday, 16 November 2026, and its month.
 const MONDAY: u16 = 9_816;
@@ -93,6 +93,55 @@ fn names_are_text() {
         format!("{name:>12}|{name:?}"),
         " OW20L262400|\"OW20L262400\""
     );
+}
+
+#[test]
+fn a_file_names_what_is_new() {
+    let (calendar, mut register) = (weekdays(), started());
+    let file = SeriesFile::read(&register.file(&calendar).expect("the register is running"));
+    let file = file.expect("a register writes a file");
+    assert_eq!((file.day(), file.len()), (MONDAY, 188));
+    let mut series = file.series();
+    let first = series.next().expect("there are series");
+    assert_eq!(first.name.as_str(), "OW20A272000");
+    let call = Series {
+        month: 324,
+        option_type: OptionType::Call,
+        price: 2_000,
+    };
+    assert_eq!((first.series, first.origin), (call, Origin::Start));
+    let last = series.next_back().expect("there are series");
+    assert_eq!(last.name.as_str(), "OW20X262800");
+    assert_eq!(last.series.option_type, OptionType::Put);
+    assert_eq!(series.len(), 186);
+
+    let next_day = u32::from(MONDAY) + 1;
+    let listed = register.session(&calendar, next_day, CLOSE);
+    assert_eq!(listed.map(|listed| listed.added), Ok(0));
+    let file = register.file(&calendar).expect("the register is running");
+    assert_eq!(file, [1, 2, 0, 0x59, 0x26]);
+    assert!(SeriesFile::read(&file).is_ok_and(|file| file.is_empty()));
+}
+
+#[test]
+fn what_is_no_file_is_refused_with_its_place() {
+    let (calendar, register) = (weekdays(), started());
+    let mut file = register.file(&calendar).expect("the register is running");
+    let place = |file: &[u8]| match SeriesFile::read(file) {
+        Err(Refusal::FileForm { place }) => place,
+        other => panic!("{other:?}"),
+    };
+    assert_eq!(place(&[]), 0);
+    assert_eq!(place(&file[..19]), 19);
+    // The second series twice.
+    file.copy_within(20..35, 35);
+    assert_eq!(place(&file), 38);
+    let refusal = SeriesFile::read(&file).unwrap_err().to_string();
+    assert_eq!(
+        refusal,
+        "refused (31): the bytes are no file of series: at place 38"
+    );
+    assert_eq!(Register::new().file(&calendar), Err(Refusal::Empty));
 }
 
 /// The types lend what they hold as it is.

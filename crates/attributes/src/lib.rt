@@ -1,5 +1,9 @@
 // What the system knows of a file by its name: its attributes, links followed, and where a link leads.
+mod age;
+
 ghost use Rattle.libc.specs.Io.{Ended};
+pub use age::put_age;
+pub use age::unsigned;
 use libc::PATH_MAX;
 use libc::types;
 

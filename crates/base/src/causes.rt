@@ -56,3 +56,9 @@ pub const NAME_SERIES: u16 = 28;
 
 // A byte of the name cannot stand at its place.
 pub const NAME_BYTE: u16 = 29;
+
+// The output buffer is too short.
+pub const OUTPUT_LENGTH: u16 = 30;
+
+// The bytes are no file of series.
+pub const FILE_FORM: u16 = 31;

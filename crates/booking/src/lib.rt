@@ -1,5 +1,5 @@
 // start, session, announce and preview: the register's calls over files. A call is a kind and its pairs, as in a journal: day and
-// close, or month and price.
+// close, or month and price. `beside` names the new register, `file_beside` the new file of series, empty where none is asked for.
 use base::causes;
 use calls::ANNOUNCE;
 use calls::Answer;
@@ -7,9 +7,12 @@ use calls::Called;
 use calls::SESSION;
 use calls::START;
 use commands::JOURNAL;
+use commands::WITH_FILE;
 use commands::YES;
 use files::Installed;
 use files::Loaded;
+use filing::Locks;
+use filing::Saved;
 use libc::STDOUT_FILENO;
 use recording::Kept;
 use report::Totals;
@@ -46,10 +49,35 @@ fn totals_of(answer: Answer) -> Totals {
 
 // What has moved with an accepted call.
 fn tell_moved(out: &[u8], end: usize) -> i32 {
-    if commands::has(JOURNAL) {
+    let has_file = commands::has(WITH_FILE);
+    let has_journal = commands::has(JOURNAL);
+    if has_file && has_journal {
+        return terminal::tell(out, end, b"register, journal and file of series");
+    }
+    if has_file {
+        return terminal::tell(out, end, b"register and file of series");
+    }
+    if has_journal {
         return terminal::tell(out, end, b"register and journal");
     }
     terminal::tell(out, end, b"the register")
+}
+
+// What was written to the file of series, of so many bytes, if one is asked for.
+fn put_file(out: &mut [u8], at: usize, after: &[u8], length: usize) -> usize {
+    if length == 0 {
+        return at;
+    }
+    let mut name = io::buffer();
+    let n = commands::value(WITH_FILE, &mut name);
+    let at = text::put_byte(out, at, b'\n');
+    report::written(
+        out,
+        at,
+        text::part(&name, 0, n),
+        reading::day(after),
+        length,
+    )
 }
 
 // What an accepted call did.
@@ -60,15 +88,16 @@ fn tell(
     calendar: &[u8],
     before: &[u8],
     after: &[u8],
+    length: usize,
 ) -> i32 {
-    let mut out = io::buffer();
+    let mut out = io::large_buffer();
     let pair = first(pairs);
     if kind == ANNOUNCE {
         let waiting = answer.first as u32;
         let end = report::announced(&mut out, 0, calendar, before, pair[0], pair[1], waiting);
         return tell_moved(&out, end);
     }
-    let end = report::changes(
+    let at = report::changes(
         &mut out,
         0,
         calendar,
@@ -77,6 +106,7 @@ fn tell(
         totals_of(answer),
         pair[1],
     );
+    let end = put_file(&mut out, at, after, length);
     tell_moved(&out, end)
 }
 
@@ -134,41 +164,37 @@ fn asks(kind: u8, close: u32, added: u16, before: &[u8], after: &[u8]) -> bool {
     true
 }
 
-// Keeps an accepted call and puts its register in place. The journal has the line before the register has the call: a run
-// that is cut off between leaves a line that the same command, run again, finds there.
+// Keeps an accepted call whose new files are saved, and puts them in place. The journal has the line before the register has the
+// call: a run that is cut off between leaves a line that the same command, run again, finds there.
 fn carry_out(
-    fd: i32,
     kept: Kept,
     kind: u8,
     pairs: &[[u32; 2]],
     answer: Answer,
-    path: &[u8],
     beside: &[u8],
-    after: &[u8],
+    file_beside: &[u8],
 ) -> Installed {
-    if !files::save(fd, path, beside, after) {
-        return Installed::Failed;
-    }
     if !recording::record(kept, kind, pairs, answer) {
-        files::discard(beside);
+        filing::discard(beside, file_beside);
         return Installed::Failed;
     }
-    files::install(path, beside, b"")
+    filing::install(beside, file_beside)
 }
 
-// Keeps a refused call, gives the lock back and tells the refusal.
+// Keeps a refused call, gives the locks back and tells the refusal.
 fn turn_down(
-    fd: i32,
+    locks: Locks,
     kept: Kept,
     kind: u8,
     pairs: &[[u32; 2]],
     answer: Answer,
     beside: &[u8],
+    file_beside: &[u8],
     calendar: &[u8],
     register: &[u8],
 ) -> i32 {
     let is_kept = recording::record(kept, kind, pairs, answer);
-    files::release(fd, beside);
+    filing::release(locks, beside, file_beside);
     if is_kept {
         let pair = first(pairs);
         return refuse(
@@ -193,25 +219,29 @@ fn is_kept(kept: Kept) -> bool {
 
 // An accepted call: asked about where it may be a slip, carried out, told.
 fn accept(
-    fd: i32,
+    locks: Locks,
     kept: Kept,
     kind: u8,
     pairs: &[[u32; 2]],
     answer: Answer,
     calendar: &[u8],
-    path: &[u8],
     beside: &[u8],
+    file_beside: &[u8],
     before: &[u8],
     after: &[u8],
 ) -> i32 {
     let pair = first(pairs);
     if !is_kept(kept) && asks(kind, pair[1], answer.first, before, after) {
-        files::release(fd, beside);
+        filing::release(locks, beside, file_beside);
         return TROUBLE;
     }
-    let installed = carry_out(fd, kept, kind, pairs, answer, path, beside, after);
+    let saved = filing::save(locks, beside, file_beside, calendar, after);
+    let Saved::Bytes(length) = saved else {
+        return TROUBLE;
+    };
+    let installed = carry_out(kept, kind, pairs, answer, beside, file_beside);
     match installed {
-        Installed::Done => tell(kind, pairs, answer, calendar, before, after),
+        Installed::Done => tell(kind, pairs, answer, calendar, before, after, length),
         Installed::Unsynced => TROUBLE,
         Installed::Failed => TROUBLE,
     }
@@ -219,34 +249,44 @@ fn accept(
 
 // A call that was answered: kept in the journal, if one is asked for and belongs to the register.
 fn settle(
-    fd: i32,
+    locks: Locks,
     kind: u8,
     pairs: &[[u32; 2]],
     answer: Answer,
     calendar: &[u8],
-    path: &[u8],
     beside: &[u8],
+    file_beside: &[u8],
     before: &[u8],
     after: &[u8],
     room: &mut [u8],
 ) -> i32 {
     let kept = recording::look(calendar, before, kind, pairs, answer.number, room);
     if let Kept::Bad = kept {
-        files::release(fd, beside);
+        filing::release(locks, beside, file_beside);
         return TROUBLE;
     }
     if answer.number != 0 {
-        return turn_down(fd, kept, kind, pairs, answer, beside, calendar, before);
+        return turn_down(
+            locks,
+            kept,
+            kind,
+            pairs,
+            answer,
+            beside,
+            file_beside,
+            calendar,
+            before,
+        );
     }
     accept(
-        fd,
+        locks,
         kept,
         kind,
         pairs,
         answer,
         calendar,
-        path,
         beside,
+        file_beside,
         before,
         after,
     )
@@ -255,45 +295,46 @@ fn settle(
 // The call on the register that this run has locked. A calendar or a register that cannot be used says nothing of the call,
 // so that it is refused and not kept.
 fn call_locked(
-    fd: i32,
+    locks: Locks,
     kind: u8,
     pairs: &[[u32; 2]],
     calendar: &[u8],
-    path: &[u8],
     beside: &[u8],
+    file_beside: &[u8],
     room: &mut [u8],
 ) -> i32 {
     let mut register = space::register();
-    if !load_register(kind, path, &mut register) {
-        files::release(fd, beside);
+    if !load_register(kind, files::replaced_by(beside), &mut register) {
+        filing::release(locks, beside, file_beside);
         return TROUBLE;
     }
     let before = register;
     let called = calling::call_by_kind(calendar, &mut register, kind, pairs);
     let Called::Answered(answer) = called else {
-        files::release(fd, beside);
+        filing::release(locks, beside, file_beside);
         return not_called();
     };
     if 0 < answer.number && answer.number <= causes::REGISTER_FORM {
         return turn_down(
-            fd,
+            locks,
             Kept::Unasked,
             kind,
             pairs,
             answer,
             beside,
+            file_beside,
             calendar,
             &before,
         );
     }
     settle(
-        fd,
+        locks,
         kind,
         pairs,
         answer,
         calendar,
-        path,
         beside,
+        file_beside,
         &before,
         &register,
         room,
@@ -304,17 +345,15 @@ fn lock_and_call(
     kind: u8,
     pairs: &[[u32; 2]],
     calendar: &[u8],
-    path: &[u8],
+    beside: &[u8],
+    file_beside: &[u8],
     room: &mut [u8],
 ) -> i32 {
-    let mut name = io::buffer();
-    let end = files::beside(path, &mut name);
-    let beside = text::part(&name, 0, end);
-    let fd = files::lock(path, beside);
-    if fd < 0 {
+    let locks = filing::lock(beside, file_beside);
+    if locks.register < 0 {
         return TROUBLE;
     }
-    call_locked(fd, kind, pairs, calendar, path, beside, room)
+    call_locked(locks, kind, pairs, calendar, beside, file_beside, room)
 }
 
 // The day or month of a call.
@@ -333,6 +372,16 @@ fn level_of(kind: u8) -> Parsed {
     terminal::number(5, terminal::CLOSE)
 }
 
+// The name of the new register, put into the buffer; 0 where that is trouble, which is told.
+fn put_beside(beside: &mut [u8]) -> usize {
+    let mut path = io::buffer();
+    let end = terminal::followed(3, &mut path);
+    if end == 0 {
+        return 0;
+    }
+    files::beside(text::part(&path, 0, end), beside)
+}
+
 // `room` is for the text of a journal.
 pub fn make(kind: u8, calendar: &[u8], room: &mut [u8]) -> i32 {
     let Parsed::Number(x) = time_of(kind) else {
@@ -341,13 +390,25 @@ pub fn make(kind: u8, calendar: &[u8], room: &mut [u8]) -> i32 {
     let Parsed::Number(y) = level_of(kind) else {
         return TROUBLE;
     };
-    let mut path = io::buffer();
-    let end = terminal::followed(3, &mut path);
+    let mut beside = io::buffer();
+    let end = put_beside(&mut beside);
     if end == 0 {
         return TROUBLE;
     }
+    let mut file_beside = io::buffer();
+    let file_end = filing::named(&mut file_beside);
+    if file_end == 0 && commands::has(WITH_FILE) {
+        return TROUBLE;
+    }
     let pairs = [[x, y]];
-    lock_and_call(kind, &pairs, calendar, text::part(&path, 0, end), room)
+    lock_and_call(
+        kind,
+        &pairs,
+        calendar,
+        text::part(&beside, 0, end),
+        text::part(&file_beside, 0, file_end),
+        room,
+    )
 }
 
 // Whether a close may be a slip: outside the nearest month's ladder, or written without a point.

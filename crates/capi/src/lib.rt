@@ -3,6 +3,8 @@ use calendar::Checked;
 use calls::Listed;
 use calls::Place;
 use calls::Told;
+use fields::Contents;
+use loader::Written;
 use names::Series;
 ghost use mathlib.Core.Path.{_≡_};
 ghost use Rattle.calendar.specs.Calendar.{checkOf};
@@ -11,6 +13,8 @@ ghost use Rattle.rules.specs.Rulebook.{rules};
 ghost use Rattle.calls.specs.Calls as Call;
 ghost use Rattle.calls.specs.RowsCall.{rowsPlace};
 ghost use Rattle.calls.specs.Answers.{afterAt, listedAt, announcedAt};
+ghost use Rattle.fields.specs.Reading.{readAt, readAfter};
+ghost use Rattle.loader.specs.Loader.{fileAt, fileAfter};
 
 #[no_mangle]
 pub extern "C" fn sindhopul_calendar_check(calendar: &[u8]) -> Checked
@@ -78,4 +82,20 @@ pub extern "C" fn sindhopul_name_read(name: &[u8]) -> Series
     ensures { λ r. ⌜ r ≡ readOf (now (name .entry)) ⌝ }
 {
     names::read(name)
+}
+
+#[no_mangle]
+pub extern "C" fn sindhopul_file_write(calendar: &[u8], register: &[u8], file: &mut [u8]) -> Written
+    ensures { λ r. ⌜ r ≡ fileAt (now (calendar .entry)) (now (register .entry)) (now (file .entry)) ⌝ }
+    ensures { λ _. ⌜ now (file .exit) ≡ fileAfter (rules (now (calendar .entry))) (now (register .entry)) (now (file .entry)) ⌝ }
+{
+    loader::write(calendar, register, file)
+}
+
+#[no_mangle]
+pub extern "C" fn sindhopul_file_read(file: &[u8], series: &mut [u8]) -> Contents
+    ensures { λ r. ⌜ r ≡ readAt (now (file .entry)) (now (series .entry)) ⌝ }
+    ensures { λ _. ⌜ now (series .exit) ≡ readAfter (now (file .entry)) (now (series .entry)) ⌝ }
+{
+    parsing::read(file, series)
 }

@@ -8,9 +8,12 @@ use crate::table::put_name;
 use crate::table::put_words;
 use crate::table::row;
 use crate::table::table;
+use crate::table::takes_value;
 
 // Their letters.
 pub const JOURNAL: u8 = b'j';
+
+pub const WITH_FILE: u8 = b's';
 
 pub const YES: u8 = b'y';
 
@@ -33,20 +36,26 @@ pub fn is_option(word: &[u8]) -> bool {
     word[0] == b'-'
 }
 
-// The letter of an option, which may have its value behind an equals sign.
+// The row of the option that a word is, which may have its value behind an equals sign; `LISTED` where there is none.
+fn row_of(word: &[u8]) -> u32 {
+    let table = table();
+    let end = text::find(word, 0, b'=');
+    let place = place(&table, FORMS, LISTED, text::part(word, 0, end), 0);
+    if end < word.len() && !takes_value(place) {
+        return LISTED;
+    }
+    place
+}
+
 pub fn letter(word: &[u8]) -> u8 {
     if !is_option(word) {
         return NO_OPTION;
     }
-    if is_joined(word) {
-        return JOURNAL;
-    }
-    let table = table();
-    letter_of(place(&table, FORMS, LISTED, word, 0))
+    letter_of(row_of(word))
 }
 
 // The letter of the option in a row.
-fn letter_of(place: u32) -> u8 {
+pub fn letter_of(place: u32) -> u8 {
     let table = table();
     let letters = letters(row(&table, place));
     if 0 < letters.len() {
@@ -55,13 +64,21 @@ fn letter_of(place: u32) -> u8 {
     UNKNOWN
 }
 
-// Whether this is --journal= with the journal's name behind it, and that name.
-pub fn is_joined(word: &[u8]) -> bool {
-    text::same(text::part(word, 0, 10), b"--journal=")
+// The row of the option that has a letter.
+pub fn row_with(option: u8) -> u32 {
+    let mut place = FORMS;
+    while place < LISTED {
+        if letter_of(place) == option {
+            return place;
+        }
+        place += 1;
+    }
+    place
 }
 
-pub fn joined(word: &[u8]) -> &[u8] {
-    text::part(word, 10, word.len())
+// Whether a word is an option alone whose value stands behind it.
+pub fn wants_value(word: &[u8]) -> bool {
+    is_option(word) && takes_value(row_of(word)) && text::find(word, 0, b'=') == word.len()
 }
 
 // The row of the option that was meant by a word, `LISTED` where none is near.

@@ -2,7 +2,7 @@
 //
 // A row is a form of a command: its name, up to four words behind it, the letters of its options. A word has the name that the
 // usage line shows, in brackets where it may be left out, and where it names a file
-//   the file's kind: C a calendar, R a register, J a journal, L a list of days, P a picture;
+//   the file's kind: C a calendar, R a register, J a journal, L a list of days, P a picture, S a file of series;
 //   < where it is read, > where it is written;
 //   - where a dash may stand for a standard stream.
 // The first row of each command stands at its number. Its longer forms stand behind the last command, and behind these the
@@ -14,10 +14,11 @@ use crate::near::nearest;
 use crate::near::place;
 use crate::options::JOURNAL;
 use crate::options::put_options;
+use crate::options::row_with;
 
-const TABLE: [u8; 1628] = *b"\
-start         CALENDAR C<   REGISTER R<>  DAY           CLOSE         jy  \
-session       CALENDAR C<   REGISTER R<>  DAY           CLOSE         jy  \
+const TABLE: [u8; 1850] = *b"\
+start         CALENDAR C<   REGISTER R<>  DAY           CLOSE         jsy \
+session       CALENDAR C<   REGISTER R<>  DAY           CLOSE         jsy \
 announce      CALENDAR C<   REGISTER R<>  MONTH         PRICE         j   \
 calendar      LIST     L< - FILE     C >                                  \
 check         CALENDAR C<                                                 \
@@ -30,9 +31,12 @@ why           CALENDAR C<   REGISTER R<   NAME                            \
 replay        CALENDAR C<   JOURNAL  J< - REGISTER R >                f   \
 audit         CALENDAR C<   JOURNAL  J< - REGISTER R<                     \
 undo          CALENDAR C<   REGISTER R<>  JOURNAL  J<>                    \
+file          CALENDAR C<   REGISTER R<   FILE     S >                    \
+series        FILE     S< -                                               \
 name          MONTH         call|put      PRICE                           \
 why           CALENDAR C<   REGISTER R<   MONTH         PRICE             \
 --journal     FILE     J<>                                            j   \
+--file        FILE     S >                                            s   \
 --yes                                                                 y   \
 --force                                                               f   \
 --help                                                                h   \
@@ -40,9 +44,9 @@ why           CALENDAR C<   REGISTER R<   MONTH         PRICE             \
 --version                                                             v   ";
 
 // Where the options begin, and how many rows there are.
-pub const FORMS: u32 = 16;
+pub const FORMS: u32 = 18;
 
-pub const LISTED: u32 = 22;
+pub const LISTED: u32 = 25;
 
 // How many bytes a row has, and a word in it.
 const ROW: usize = 74;
@@ -78,7 +82,11 @@ pub const AUDIT: u32 = 12;
 
 pub const UNDO: u32 = 13;
 
-pub const COMMANDS: u32 = 14;
+pub const FILE: u32 = 14;
+
+pub const SERIES: u32 = 15;
+
+pub const COMMANDS: u32 = 16;
 
 // The kinds of the files that words name.
 pub const NO_FILE: u8 = b' ';
@@ -93,6 +101,8 @@ pub const LIST_FILE: u8 = b'L';
 
 pub const PICTURE_FILE: u8 = b'P';
 
+pub const SERIES_FILE: u8 = b'S';
+
 // What a command does with such a file.
 pub const NONE: u8 = 0;
 
@@ -103,8 +113,8 @@ pub const WRITTEN: u8 = 2;
 pub const BOTH: u8 = 3;
 
 // The table, read in one place: the prover takes its time by the bytes of a constant.
-pub fn table() -> [u8; 1628]
-    ensures { λ r. ⌜ 1628 ≡ length r ⌝ }
+pub fn table() -> [u8; 1850]
+    ensures { λ r. ⌜ 1850 ≡ length r ⌝ }
 {
     TABLE
 }
@@ -212,21 +222,31 @@ pub fn form(command: u32, words: usize) -> u32 {
     last
 }
 
-// The mark of word i of a command, in its first form that has such a word.
-fn mark_of(command: u32, i: usize, place: usize) -> u8 {
+// The first form of a command that has a word i.
+fn form_with(command: u32, i: usize) -> u32 {
+    form(command, i % 100 + 1)
+}
+
+// The kind of the file that word i of a row names.
+fn kind_in(place: u32, i: usize) -> u8 {
     let table = table();
-    mark(row(&table, form(command, i % 100 + 1)), i, place)
+    mark(row(&table, place), i, 9)
 }
 
-// The kind of the file that word i names.
 pub fn kind(command: u32, i: usize) -> u8 {
-    mark_of(command, i, 9)
+    kind_in(form_with(command, i), i)
 }
 
-// What the command does with it.
-pub fn access(command: u32, i: usize) -> u8 {
-    let is_read = mark_of(command, i, 10) == b'<';
-    let is_written = mark_of(command, i, 11) == b'>';
+pub fn option_kind(option: u8) -> u8 {
+    kind_in(row_with(option), 2)
+}
+
+// What is done with it.
+fn access_in(place: u32, i: usize) -> u8 {
+    let table = table();
+    let row = row(&table, place);
+    let is_read = mark(row, i, 10) == b'<';
+    let is_written = mark(row, i, 11) == b'>';
     if is_read && is_written {
         BOTH
     } else if is_read {
@@ -238,9 +258,24 @@ pub fn access(command: u32, i: usize) -> u8 {
     }
 }
 
+pub fn access(command: u32, i: usize) -> u8 {
+    access_in(form_with(command, i), i)
+}
+
+pub fn option_access(option: u8) -> u8 {
+    access_in(row_with(option), 2)
+}
+
 // Whether a dash may stand for a standard stream there.
 pub fn takes_stream(command: u32, i: usize) -> bool {
-    mark_of(command, i, 12) == b'-'
+    let table = table();
+    mark(row(&table, form_with(command, i)), i, 12) == b'-'
+}
+
+// Whether the option of a row has a value.
+pub fn takes_value(place: u32) -> bool {
+    let table = table();
+    is_filled(row(&table, place), 2) == 1
 }
 
 // Whether a command takes an option.

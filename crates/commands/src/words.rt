@@ -1,15 +1,16 @@
 // The words that the program was started with.
 //
-// Options may stand anywhere. The word behind --journal is its value unless it is an option itself.
-use crate::options::JOURNAL;
+// Options may stand anywhere. The word behind an option that has a value is that value unless it is an option itself.
 use crate::options::NO_OPTION;
-use crate::options::is_joined;
-use crate::options::is_option;
-use crate::options::joined;
 use crate::options::letter;
+use crate::options::letter_of;
+use crate::options::wants_value;
+use crate::table::FORMS;
+use crate::table::LISTED;
 use crate::table::changes;
 use crate::table::named;
 use crate::table::takes;
+use crate::table::takes_value;
 
 // No program is started with as many words.
 const MOST: usize = 1000000000;
@@ -27,18 +28,18 @@ fn option_at(at: usize) -> u8 {
     letter(&space[..n])
 }
 
-// Whether the argument is --journal alone, so that its value stands behind it.
-fn wants_value(at: usize) -> bool {
+// Whether the argument is an option alone whose value stands behind it.
+fn is_in_front(at: usize) -> bool {
     let mut space = io::buffer();
     let n = os::arg(at, &mut space);
-    text::same(&space[..n], b"--journal")
+    wants_value(&space[..n])
 }
 
 fn is_value(at: usize) -> bool {
     if at < 2 {
         return false;
     }
-    wants_value(at - 1) && option_at(at) == NO_OPTION
+    is_in_front(at - 1) && option_at(at) == NO_OPTION
 }
 
 fn is_word(at: usize) -> bool {
@@ -117,18 +118,20 @@ pub fn has(option: u8) -> bool {
     place_of(option) < os::arg_count()
 }
 
-// Puts the journal's name at the start of the buffer and answers its length; 0 where none is named.
-pub fn journal(buffer: &mut [u8]) -> usize {
-    let at = place_of(JOURNAL);
+// Puts the value of an option at the start of the buffer and answers its length; 0 where it has none.
+pub fn value(option: u8, buffer: &mut [u8]) -> usize {
+    let at = place_of(option);
     let mut space = io::buffer();
     let n = os::arg(at, &mut space);
-    if is_joined(&space[..n]) {
-        return text::put(buffer, 0, joined(&space[..n]));
+    let word = &space[..n];
+    let end = text::find(word, 0, b'=');
+    if end < n {
+        return text::put(buffer, 0, text::part(word, end + 1, n));
     }
-    journal_behind(at, buffer)
+    value_behind(at, buffer)
 }
 
-fn journal_behind(at: usize, buffer: &mut [u8]) -> usize {
+fn value_behind(at: usize, buffer: &mut [u8]) -> usize {
     if os::arg_count() <= at {
         return 0;
     }
@@ -138,10 +141,23 @@ fn journal_behind(at: usize, buffer: &mut [u8]) -> usize {
     0
 }
 
-// Whether a journal is asked for without its name. An empty one, as of a variable that is not set, would silently keep none.
-pub fn lacks_journal() -> bool {
+fn lacks_value(place: u32) -> bool {
+    let option = letter_of(place);
     let mut space = io::buffer();
-    has(JOURNAL) && journal(&mut space) == 0
+    takes_value(place) && has(option) && value(option, &mut space) == 0
+}
+
+// The row of an option that is asked for without its value, `LISTED` where there is none. An empty value, as of a variable that
+// is not set, would silently ask for nothing.
+pub fn lacking_value() -> u32 {
+    let mut place = FORMS;
+    while place < LISTED {
+        if lacks_value(place) {
+            return place;
+        }
+        place += 1;
+    }
+    place
 }
 
 // Whether a command does not take the option that an argument is, or it stood there before.

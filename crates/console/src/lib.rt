@@ -3,9 +3,11 @@ use commands::ANNOUNCE;
 use commands::AUDIT;
 use commands::CALENDAR;
 use commands::CHECK;
+use commands::FILE;
 use commands::NAME;
 use commands::PREVIEW;
 use commands::REPLAY;
+use commands::SERIES;
 use commands::SESSION;
 use commands::START;
 use commands::UNDO;
@@ -29,22 +31,34 @@ fn with_calendar(command: u32) -> i32 {
     if !terminal::file(2, &mut calendar) {
         return TROUBLE;
     }
+    if command == FILE {
+        return filing::write(&calendar);
+    }
+    with_register(command, &calendar)
+}
+
+fn with_journal(command: u32, room: &mut [u8]) -> i32 {
+    let mut calendar = space::calendar();
+    if !terminal::file(2, &mut calendar) {
+        return TROUBLE;
+    }
     match command {
-        START | SESSION | ANNOUNCE | REPLAY | AUDIT | UNDO => with_journal(command, &calendar),
-        _ => with_register(command, &calendar),
+        START => booking::make(calls::START, &calendar, room),
+        SESSION => booking::make(calls::SESSION, &calendar, room),
+        ANNOUNCE => booking::make(calls::ANNOUNCE, &calendar, room),
+        UNDO => undoing::undo(&calendar, room),
+        _ => restoring::run(command, &calendar, room),
     }
 }
 
-// The text of a journal takes half of the stack that a program has, so that there is room for one alone.
-fn with_journal(command: u32, calendar: &[u8]) -> i32 {
+// The text of a journal takes half of the stack that a program has, so that there is room for one alone, and one function alone
+// has it: a file of series is read into the same.
+fn with_room(command: u32) -> i32 {
     let mut room = space::journal();
-    match command {
-        START => booking::make(calls::START, calendar, &mut room),
-        SESSION => booking::make(calls::SESSION, calendar, &mut room),
-        ANNOUNCE => booking::make(calls::ANNOUNCE, calendar, &mut room),
-        UNDO => undoing::undo(calendar, &mut room),
-        _ => restoring::run(command, calendar, &mut room),
+    if command == SERIES {
+        return filing::read(&mut room);
     }
+    with_journal(command, &mut room)
 }
 
 fn act(command: u32) -> i32 {
@@ -55,6 +69,7 @@ fn act(command: u32) -> i32 {
         CALENDAR => answers::make_calendar(),
         CHECK => answers::check(),
         NAME => answers::name(),
+        START | SESSION | ANNOUNCE | REPLAY | AUDIT | UNDO | SERIES => with_room(command),
         _ => with_calendar(command),
     }
 }

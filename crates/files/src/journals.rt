@@ -1,8 +1,8 @@
 // Journals: a line more, behind whole lines.
 use crate::complain;
 use crate::fail;
-use crate::names;
 use crate::note;
+use crate::paths;
 use crate::trouble;
 use crate::whole;
 
@@ -132,7 +132,7 @@ fn keep_real(path: &[u8], whole: usize, size: usize, line: &[u8]) -> bool {
 // the disk. A journal that is missing is made; links are followed.
 pub fn keep_line(path: &[u8], whole: usize, size: usize, line: &[u8]) -> bool {
     let mut real = io::buffer();
-    let end = names::follow(path, &mut real);
+    let end = paths::follow(path, &mut real);
     if end == 0 {
         return false;
     }

@@ -5,7 +5,7 @@
 // run alone, so it is also the lock of one run against another.
 mod journals;
 mod loading;
-mod names;
+mod paths;
 mod telling;
 mod whole;
 
@@ -14,9 +14,10 @@ pub use loading::Loaded;
 pub use loading::load;
 pub use loading::load_text;
 pub use loading::peek;
-pub use names::beside;
-pub use names::follow;
-pub use names::is_same;
+pub use paths::beside;
+pub use paths::follow;
+pub use paths::is_same;
+pub use paths::replaced_by;
 pub use telling::complain;
 pub use telling::fail;
 pub use telling::note;
@@ -28,6 +29,9 @@ pub use whole::finish;
 pub use whole::install;
 pub use whole::is_destination;
 pub use whole::lock;
+pub use whole::lock_first;
+pub use whole::put_in_place;
 pub use whole::release;
 pub use whole::replace;
 pub use whole::save;
+pub use whole::settle;

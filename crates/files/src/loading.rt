@@ -28,8 +28,20 @@ fn read_whole(fd: i32, path: &[u8], buffer: &mut [u8]) -> Loaded {
         complain(path, b"it could not be read to its end");
         return Loaded::Failed;
     }
-    complain(path, b"the file is longer than it may be");
+    complain_long(path, n);
     Loaded::Failed
+}
+
+fn complain_long(path: &[u8], most: usize) {
+    let mut words = [0u8; 80];
+    let at = text::put(
+        &mut words,
+        0,
+        b"the file is longer than it may be: it is read up to ",
+    );
+    let at = text::number(&mut words, at, text::narrowed(most));
+    let end = text::put(&mut words, at, b" bytes");
+    complain(path, text::part(&words, 0, end));
 }
 
 // Reads the whole file to the start of the buffer.

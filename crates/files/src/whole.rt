@@ -1,7 +1,8 @@
 // Replacing a file whole.
 use crate::complain;
 use crate::fail;
-use crate::names;
+use crate::note;
+use crate::paths;
 use crate::trouble;
 use attributes::Attributes;
 use libc::STDERR_FILENO;
@@ -44,81 +45,49 @@ pub fn is_destination(path: &[u8], file: Attributes) -> bool {
     false
 }
 
-fn put_count(out: &mut [u8], at: usize, n: usize, unit: &[u8]) -> usize {
-    let mut end = text::number(out, at, text::narrowed(n));
-    end = text::put(out, end, unit);
-    if n == 1 {
-        return end;
-    }
-    text::put(out, end, b"s")
+// That a new file is there already, and since when.
+fn put_lock(out: &mut [u8], beside: &[u8]) -> usize {
+    let at = text::put(out, 0, b"is there already, for ");
+    let at = attributes::put_age(out, at, attributes::of(beside));
+    text::put(out, at, b": another run is at work, or one was cut off")
 }
 
-fn put_two(out: &mut [u8], n: usize, unit: &[u8], rest: usize, part: &[u8]) -> usize {
-    let end = put_count(out, 0, n, unit);
-    let end = text::put(out, end, b" ");
-    put_count(out, end, rest, part)
-}
-
-// A span of time by its two greatest parts.
-fn put_age(out: &mut [u8], seconds: usize) -> usize {
-    let minutes = seconds / 60;
-    let hours = minutes / 60;
-    if 24 <= hours {
-        return put_two(out, hours / 24, b" day", hours % 24, b" hour");
-    }
-    if 1 <= hours {
-        return put_two(out, hours, b" hour", minutes % 60, b" minute");
-    }
-    if 1 <= minutes {
-        return put_two(out, minutes, b" minute", seconds % 60, b" second");
-    }
-    put_count(out, 0, seconds, b" second")
-}
-
-fn unsigned(n: i64) -> usize {
-    if 0 <= n {
-        return n as usize;
-    }
-    0
-}
-
-// How many seconds ago a time was; 0 where it lies ahead of the clock.
-fn seconds_since(time: i64) -> usize {
-    let mut clock: i64 = 0;
-    libc::time(&mut clock);
-    let now = unsigned(clock);
-    let then = unsigned(time);
-    if now < then {
-        return 0;
-    }
-    now - then
-}
-
-// The new file is there already: since when, and how it is taken away.
-fn tell_lock(beside: &[u8]) {
-    let mut age = [0u8; 64];
-    let end = put_age(&mut age, seconds_since(attributes::of(beside).changed));
-    let mut words = [0u8; 160];
-    let at = text::put(&mut words, 0, b"is there already, for ");
-    let at = text::put(&mut words, at, text::part(&age, 0, end));
-    let at = text::put(
-        &mut words,
-        at,
-        b": another run is at work, or one was cut off",
-    );
-    complain(beside, text::part(&words, 0, at));
+fn write_word(name: &[u8]) {
     let mut word = [0u8; ROOM];
-    let end = quoting::put_word(&mut word, 0, beside);
-    io::write_all(
-        STDERR_FILENO,
-        b"  if no other run is at work, remove it and run the command again: rm ",
-    );
+    let end = quoting::put_word(&mut word, 0, name);
+    io::write_all(STDERR_FILENO, b" ");
     io::write_all(STDERR_FILENO, text::part(&word, 0, end));
+}
+
+// The new file is there already, and perhaps the other one of the same run: how they are taken away.
+fn tell_lock(beside: &[u8], other: &[u8]) {
+    let mut words = [0u8; 160];
+    let end = put_lock(&mut words, beside);
+    complain(beside, text::part(&words, 0, end));
+    let are_both = attributes::of(other).is_there;
+    if are_both {
+        let end = put_lock(&mut words, other);
+        note(other, text::part(&words, 0, end));
+    }
+    io::write_all(STDERR_FILENO, b"  if no other run is at work, remove ");
+    if are_both {
+        io::write_all(STDERR_FILENO, b"both and run the command again: rm");
+        write_word(beside);
+        write_word(other);
+    } else {
+        io::write_all(STDERR_FILENO, b"it and run the command again: rm");
+        write_word(beside);
+    }
     io::write_all(STDERR_FILENO, b"\n");
 }
 
 // Makes the new file beside a path and answers its descriptor, or -1: then trouble is told.
 pub fn lock(path: &[u8], beside: &[u8]) -> i32 {
+    lock_first(path, beside, b"")
+}
+
+// The same where a run makes another new file next: one that is there too is told beside this one.
+pub fn lock_first(path: &[u8], beside: &[u8], other: &[u8]) -> i32 {
     if beside.len() == 0 {
         return -1;
     }
@@ -130,7 +99,7 @@ pub fn lock(path: &[u8], beside: &[u8]) -> i32 {
         return fd;
     }
     if os::errno() == libc::EEXIST {
-        tell_lock(beside);
+        tell_lock(beside, other);
         return -1;
     }
     fail(beside);
@@ -198,16 +167,21 @@ pub fn save(fd: i32, path: &[u8], beside: &[u8], bytes: &[u8]) -> bool {
 }
 
 // Puts the new file in the place of the old one. Trouble is told behind what has moved before.
-pub fn install(path: &[u8], beside: &[u8], moved: &[u8]) -> Installed {
-    if os::rename(beside, path) != 0 {
-        io::write_all(STDERR_FILENO, moved);
-        trouble(
-            path,
-            b"it is as it was, run the command again: the new one could not take its place",
-        );
-        discard(beside);
-        return Installed::Failed;
+pub fn put_in_place(path: &[u8], beside: &[u8], moved: &[u8]) -> bool {
+    if os::rename(beside, path) == 0 {
+        return true;
     }
+    io::write_all(STDERR_FILENO, moved);
+    trouble(
+        path,
+        b"it is as it was, run the command again: the new one could not take its place",
+    );
+    discard(beside);
+    false
+}
+
+// Brings the folder of a file that did move to the disk.
+pub fn settle(path: &[u8]) -> Installed {
     if sync_folder(path) {
         return Installed::Done;
     }
@@ -218,9 +192,17 @@ pub fn install(path: &[u8], beside: &[u8], moved: &[u8]) -> Installed {
     Installed::Unsynced
 }
 
+// Both.
+pub fn install(path: &[u8], beside: &[u8], moved: &[u8]) -> Installed {
+    if put_in_place(path, beside, moved) {
+        return settle(path);
+    }
+    Installed::Failed
+}
+
 fn replace_real(path: &[u8], bytes: &[u8]) -> Installed {
     let mut name = io::buffer();
-    let end = names::beside(path, &mut name);
+    let end = paths::beside(path, &mut name);
     let beside = text::part(&name, 0, end);
     let fd = lock(path, beside);
     if fd < 0 {
@@ -235,7 +217,7 @@ fn replace_real(path: &[u8], bytes: &[u8]) -> Installed {
 // Replaces the file that a path leads to by these bytes.
 pub fn replace(path: &[u8], bytes: &[u8]) -> Installed {
     let mut real = io::buffer();
-    let end = names::follow(path, &mut real);
+    let end = paths::follow(path, &mut real);
     if end == 0 {
         return Installed::Failed;
     }
@@ -245,7 +227,7 @@ pub fn replace(path: &[u8], bytes: &[u8]) -> Installed {
 // Brings the folder's entry of a file to the disk. Where that fails errno says why.
 pub fn sync_folder(path: &[u8]) -> bool {
     let mut folder = io::buffer();
-    let end = names::put_folder(&mut folder, path);
+    let end = paths::put_folder(&mut folder, path);
     let fd = os::open_read(text::part(&folder, 0, end));
     if fd < 0 {
         return false;

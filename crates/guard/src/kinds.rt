@@ -1,4 +1,5 @@
-// What a file is, by how it begins or else by its length: a journal may have the length of a register.
+// What a file is, by how it begins or else by its length: a journal may have the length of a register. One of series is known by
+// both.
 use calendar::CALENDAR_LENGTH;
 use commands::CALENDAR_FILE;
 use commands::JOURNAL_FILE;
@@ -6,6 +7,12 @@ use commands::LIST_FILE;
 use commands::NO_FILE;
 use commands::PICTURE_FILE;
 use commands::REGISTER_FILE;
+use commands::SERIES_FILE;
+use fields::CONTENT;
+use fields::DAY_FIELD;
+use fields::DAY_LENGTH;
+use fields::DAY_TAG;
+use fields::SERIES_FIELD;
 use layout::REGISTER_LENGTH;
 use text::Parsed;
 
@@ -68,6 +75,16 @@ fn kind_by_beginning(bytes: &[u8]) -> u8 {
     NO_FILE
 }
 
+// Whether a file that begins so may be one of series: the field of a day, and whole fields of series behind it.
+fn is_series(bytes: &[u8], length: usize) -> bool {
+    if length < DAY_FIELD {
+        return false;
+    }
+    let tag_and_length = [DAY_TAG, DAY_LENGTH as u8, 0];
+    text::same(text::part(bytes, 0, CONTENT), &tag_and_length)
+        && (length - DAY_FIELD) % SERIES_FIELD == 0
+}
+
 fn kind_by_length(length: i64) -> u8 {
     if length == CALENDAR_LENGTH as i64 {
         return CALENDAR_FILE;
@@ -92,10 +109,13 @@ pub fn kind_of(name: &[u8]) -> u8 {
     let mut space = io::buffer();
     let n = files::peek(name, &mut space);
     let begun = kind_by_beginning(text::part(&space, 0, n));
-    if begun == NO_FILE {
-        return kind_by_length(file.size);
+    if begun != NO_FILE {
+        return begun;
     }
-    begun
+    if is_series(text::part(&space, 0, n), attributes::unsigned(file.size)) {
+        return SERIES_FILE;
+    }
+    kind_by_length(file.size)
 }
 
 // A kind as people say it.
@@ -105,6 +125,7 @@ pub fn put_kind(out: &mut [u8], at: usize, kind: u8) -> usize {
         REGISTER_FILE => text::put(out, at, b"register"),
         JOURNAL_FILE => text::put(out, at, b"journal"),
         LIST_FILE => text::put(out, at, b"list of days"),
+        SERIES_FILE => text::put(out, at, b"file of series"),
         _ => text::put(out, at, b"picture of ours"),
     }
 }

@@ -3,11 +3,13 @@ use commands::ANNOUNCE;
 use commands::AUDIT;
 use commands::CALENDAR;
 use commands::CHECK;
+use commands::FILE;
 use commands::NAME;
 use commands::PICTURE;
 use commands::PREVIEW;
 use commands::REPLAY;
 use commands::ROWS;
+use commands::SERIES;
 use commands::SESSION;
 use commands::SHOW;
 use commands::START;
@@ -15,7 +17,7 @@ use commands::UNDO;
 use commands::WHY;
 
 // The program's version; tests/install.sh compares it with those of the library and its bindings.
-const VERSION: [u8; 5] = *b"0.1.0";
+const VERSION: [u8; 5] = *b"0.2.0";
 
 fn overview(fd: i32) -> bool {
     io::write_all(
@@ -36,10 +38,14 @@ fn overview(fd: i32) -> bool {
   replay CALENDAR JOURNAL REGISTER          make a register again from its journal
   audit CALENDAR JOURNAL REGISTER           whether a register is exactly what its journal gives
   undo CALENDAR REGISTER JOURNAL            take the last accepted call back
+  file CALENDAR REGISTER FILE               write the file of the day's new series, for the loader
+  series FILE                               what a file of series says
 
 Options stand anywhere. start, session and announce keep the call in a journal with --journal FILE;
-start and session take a doubtful close with --yes, replay replaces a register that runs with --force.
-A dash in place of a list or a journal that is only read is standard input, in place of a picture standard output.
+start and session write the file of the day's new series with --file FILE and take a doubtful close with --yes;
+replay replaces a register that runs with --force.
+A dash in place of a list, a journal or a file of series that is only read is standard input, in place of a picture
+standard output.
 Days are written 2026-11-16, months 2026-12, or as their numbers; closes 2413.37, or in hundredths.
 Exit status: 0 done, 1 refused by a cause, 2 bad use or trouble with a file.
 sindhopul help COMMAND says more of a command, sindhopul --version which version this is.
@@ -54,7 +60,8 @@ fn start(fd: i32) -> bool {
 Lists the six live months of DAY, a session day, around CLOSE, the close before it.
   CALENDAR   the session calendar, made by sindhopul calendar
   REGISTER   empty, or missing: then it is made
-  FILE       gets a line for the call and its answer, which replay and audit read; start makes it where it is missing
+  --journal  FILE gets a line for the call and its answer, which replay and audit read; start makes it where it is missing
+  --file     FILE gets the series that are listed, as sindhopul file writes them; it is replaced together with REGISTER
   --yes      takes a close without a point, as 241337
 ",
     )
@@ -67,7 +74,8 @@ fn session(fd: i32) -> bool {
 Moves the register to DAY, the next session day, with CLOSE, the close before it: drops the month that expired,
 widens each ladder to take in what the close requires and what was announced, and says what was added and removed.
   REGISTER   replaced whole, never half written; while a run is at work, REGISTER.new is there
-  FILE       gets a line for the call and its answer, refused or not, which replay and audit read
+  --journal  FILE gets a line for the call and its answer, refused or not, which replay and audit read
+  --file     FILE gets the series that are new on DAY, as sindhopul file writes them; it is replaced together with REGISTER
   --yes      takes a close outside the ladder of the nearest month, or one without a point, as 241337
 sindhopul preview answers the same and changes no file; sindhopul undo takes the call back.
 ",
@@ -80,7 +88,7 @@ fn announce(fd: i32) -> bool {
         b"
 Takes in a strike that the exchange announced for MONTH; the next session lists it, and every strike up to it.
   REGISTER   replaced whole, never half written; while a run is at work, REGISTER.new is there
-  FILE       gets a line for the call and its answer, refused or not, which replay and audit read
+  --journal  FILE gets a line for the call and its answer, refused or not, which replay and audit read
 ",
     )
 }
@@ -198,6 +206,29 @@ the journal as a comment.
     )
 }
 
+fn file(fd: i32) -> bool {
+    io::write_all(
+        fd,
+        b"
+Writes the series that are new on the register's day, a call and a put for each new row, for the loader: the day, then
+names and origins, names ascending. A day without new series gives a file with the day alone.
+  FILE   replaced whole, never half written; while a run is at work, FILE.new is there
+start and session write it in one run with the register, with --file FILE.
+",
+    )
+}
+
+fn series(fd: i32) -> bool {
+    io::write_all(
+        fd,
+        b"
+The day of a file of series and how many it has, then for each its name, month, type, strike and origin. Bytes that are
+no such file are refused, with the first place that is wrong, what stands there and what belongs there.
+  FILE   up to 4,194,304 bytes; - is standard input
+",
+    )
+}
+
 fn write_text(fd: i32, command: u32) -> bool {
     match command {
         START => start(fd),
@@ -220,6 +251,8 @@ fn write_more(fd: i32, command: u32) -> bool {
         REPLAY => replay(fd),
         AUDIT => audit(fd),
         UNDO => undo(fd),
+        FILE => file(fd),
+        SERIES => series(fd),
         _ => overview(fd),
     }
 }

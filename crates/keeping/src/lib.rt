@@ -1,5 +1,6 @@
 // Register and journal belong together: whether a file is the journal of a register, whole and true, and how the register
 // stands to it. What is not as it should be is told, with the way on.
+use commands::WITH_FILE;
 use journal::Line;
 use matching::Found;
 
@@ -73,6 +74,8 @@ pub fn complain_ahead(path: &[u8], line: &[u8]) {
     let c = commands::word(2, &mut calendar_name);
     let mut register_name = io::buffer();
     let r = commands::word(3, &mut register_name);
+    let mut file_name = io::buffer();
+    let f = commands::value(WITH_FILE, &mut file_name);
     let mut out = io::large_buffer();
     let end = matching::ahead(
         &mut out,
@@ -81,6 +84,7 @@ pub fn complain_ahead(path: &[u8], line: &[u8]) {
         text::part(&calendar_name, 0, c),
         text::part(&register_name, 0, r),
         path,
+        text::part(&file_name, 0, f),
     );
     files::complain(path, text::part(&out, 0, end));
 }

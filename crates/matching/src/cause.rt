@@ -6,11 +6,11 @@ fn line_of(number: u32) -> u32 {
         return 1;
     }
     if 11 <= number {
-        if number <= 29 {
+        if number <= 31 {
             return number - 9;
         }
     }
-    21
+    23
 }
 
 pub fn in_words(out: &mut [u8], at: usize, number: u32) -> usize {
@@ -35,6 +35,8 @@ the month whose rows are wanted is not live
 the name is not 11 bytes long
 there is no series of this month and price
 a byte of the name cannot stand at its place
+the output buffer is too short
+the bytes are no file of series
 no cause that there is",
         line_of(number),
     );

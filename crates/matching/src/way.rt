@@ -49,7 +49,29 @@ fn two(out: &mut [u8], at: usize, first: &[u8], second: &[u8]) -> usize {
     name(out, at, second)
 }
 
-// The journal has one call more than the register, that of the line.
+// Whether the call of a line lists rows, so that a file of series may be written with it. Which one stands in no journal: it is
+// the one that the command names, or the person knows it.
+fn lists_rows(line: &[u8]) -> bool {
+    !text::same(lines::word(line), b"announce")
+}
+
+fn with_file(out: &mut [u8], at: usize, line: &[u8], file_name: &[u8]) -> usize {
+    if file_name.len() == 0 || !lists_rows(line) {
+        return at;
+    }
+    let at = put(out, at, b" --file");
+    name(out, at, file_name)
+}
+
+// Says that a file is to be named, where the command names none and the call may have had one.
+fn lead(out: &mut [u8], at: usize, line: &[u8], file_name: &[u8]) -> usize {
+    if file_name.len() == 0 && lists_rows(line) {
+        return put(out, at, b", with --file if it had one: sindhopul ");
+    }
+    put(out, at, b": sindhopul ")
+}
+
+// The journal has one call more than the register, that of the line. `file_name` is that of --file, if the command has it.
 pub fn ahead(
     out: &mut [u8],
     at: usize,
@@ -57,13 +79,16 @@ pub fn ahead(
     calendar_name: &[u8],
     register_name: &[u8],
     journal_name: &[u8],
+    file_name: &[u8],
 ) -> usize {
     let at = put(
         out,
         at,
-        b"it is ahead of the register: its last call was not carried out\n  complete it: sindhopul ",
+        b"it is ahead of the register: its last call was not carried out\n  complete it",
     );
+    let at = lead(out, at, line, file_name);
     let at = repeated(out, at, line, calendar_name, register_name, journal_name);
+    let at = with_file(out, at, line, file_name);
     let at = put(out, at, b"\n  or take it back: ");
     command(
         out,

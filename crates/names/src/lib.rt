@@ -38,7 +38,7 @@ fn no_series(month: u32, kind: u32, price: u32) -> bool
 }
 
 // Puts a name into a buffer of its length.
-fn put(name: &mut [u8], month: u32, kind: u32, price: u32)
+pub fn put(name: &mut [u8], month: u32, kind: u32, price: u32)
     requires { ⌜ (length (now name) ≡ nameLength) × (kind ≤ 1) ⌝ }
     ensures { λ _. ⌜ now (name .exit) ≡ nameOf month kind price ⌝ }
 {

@@ -2,7 +2,7 @@
 //
 // A place is % and a letter, and takes the next value: %n a number, %1 to %9 a number to the right end of a column so wide,
 // %d a day, %m a month, %c a close, %s the plural's s unless the value is 1, %t the letter of a tier, %o an origin in words,
-// %C and %P the names of the call and the put of a series.
+// %C and %P the names of the call and the put of a series, %b a byte with its sign, where it has one.
 use text::put;
 
 const CALL: u32 = 0;
@@ -43,6 +43,16 @@ fn origin(out: &mut [u8], at: usize, origin: u32) -> usize {
     }
 }
 
+fn byte(out: &mut [u8], at: usize, value: u32) -> usize {
+    let at = text::number(out, at, value);
+    if value <= 32 || 126 < value {
+        return at;
+    }
+    let at = put(out, at, b" (");
+    let at = text::put_byte(out, at, (value % 256) as u8);
+    put(out, at, b")")
+}
+
 // The place value of a column's first digit.
 fn first_place(width: u8) -> u32 {
     match width {
@@ -69,6 +79,7 @@ fn listed(out: &mut [u8], at: usize, letter: u8, value: u32) -> usize {
     match letter {
         b't' => tier(out, at, value),
         b'o' => origin(out, at, value),
+        b'b' => byte(out, at, value),
         b'C' => name(out, at, value, CALL),
         b'P' => name(out, at, value, PUT),
         _ => text::column(out, at, value, first_place(letter)),

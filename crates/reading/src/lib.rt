@@ -46,7 +46,7 @@ pub fn byte_at(bytes: &[u8], at: usize) -> u32 {
 }
 
 // The number in two bytes, low byte first; 0 past the end.
-fn word_at(bytes: &[u8], at: usize) -> u32 {
+pub fn word_at(bytes: &[u8], at: usize) -> u32 {
     if at < bytes.len() {
         let low = wide(bytes[at]);
         let next = at + 1;

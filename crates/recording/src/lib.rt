@@ -145,7 +145,7 @@ pub fn look(
         return Kept::Unasked;
     }
     let mut path = io::buffer();
-    let n = commands::journal(&mut path);
+    let n = commands::value(JOURNAL, &mut path);
     look_in(
         text::part(&path, 0, n),
         calendar,
@@ -166,7 +166,7 @@ fn write(
     lacks_feed: bool,
 ) -> bool {
     let mut path = io::buffer();
-    let n = commands::journal(&mut path);
+    let n = commands::value(JOURNAL, &mut path);
     let mut line = [0u8; LINE];
     let feed = if lacks_feed { 1 } else { 0 };
     let at = text::put(&mut line, 0, text::part(b"\n", 0, feed));

@@ -1,6 +1,7 @@
-// What stands in a register that was accepted, in words and tables. Whoever asks has opened it.
+// What stands in a register that was accepted, or in a file of series, in words and tables. Whoever asks has opened it.
 mod brought;
 mod close;
+mod contents;
 mod glance;
 mod outcome;
 mod parts;
@@ -8,6 +9,9 @@ mod strikes;
 
 pub use close::far;
 pub use close::is_far;
+pub use contents::series_heading;
+pub use contents::series_line;
+pub use contents::written;
 pub use glance::show;
 pub use outcome::Totals;
 pub use outcome::announced;

@@ -38,6 +38,7 @@ fn put_way(
             text::part(&calendar_name, 0, c),
             text::part(&register_name, 0, r),
             name_of(path, b"JOURNAL"),
+            b"",
         );
     }
     let mut again = space::register();

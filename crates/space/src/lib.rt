@@ -2,6 +2,7 @@
 // would take by their number.
 use calendar::CALENDAR_LENGTH;
 use layout::REGISTER_LENGTH;
+use loader::MOST_LENGTH;
 ghost use mathlib.Core.Path.{_≡_};
 ghost use lib.ListN.{length};
 ghost use Rattle.calendar.specs.Calendar.{calendarLength};
@@ -19,6 +20,13 @@ pub fn register() -> [u8; REGISTER_LENGTH]
     ensures { λ r. ⌜ registerLength ≡ length r ⌝ }
 {
     [0; REGISTER_LENGTH]
+}
+
+// The longest file of series that a register gives.
+pub fn series() -> [u8; MOST_LENGTH]
+    ensures { λ r. ⌜ 41735 ≡ length r ⌝ }
+{
+    [0; MOST_LENGTH]
 }
 
 // The longest text that is written out: every row of a full register in words, or drawn.

@@ -5,6 +5,8 @@
 // completes the work; the other way round the journal would lack a call that the register has.
 mod comments;
 
+use calls::SESSION;
+use calls::START;
 use files::Installed;
 use files::Loaded;
 use keeping::Standing;
@@ -13,8 +15,25 @@ use phrases::fill;
 use terminal::TROUBLE;
 use terminal::refuse;
 
+// What a file of series that was written with the call is now. An announcement has none.
+fn put_file(out: &mut [u8], at: usize, kind: u8) -> usize {
+    match kind {
+        START => text::put(
+            out,
+            at,
+            b"  a file of series written for it is no longer right: the next start makes it anew with --file FILE\n",
+        ),
+        SESSION => text::put(
+            out,
+            at,
+            b"  a file of series written for it is no longer right, make it anew: sindhopul file CALENDAR REGISTER FILE\n",
+        ),
+        _ => at,
+    }
+}
+
 // What was taken back, and how the register stands now.
-fn tell(line: &[u8], register: &[u8]) -> i32 {
+fn tell(line: &[u8], kind: u8, register: &[u8]) -> i32 {
     let mut out = io::buffer();
     let at = text::put(&mut out, 0, b"taken back: ");
     let at = text::put(&mut out, at, line);
@@ -35,6 +54,7 @@ fn tell(line: &[u8], register: &[u8]) -> i32 {
         end,
         b"\n  the journal keeps the line, and calls refused behind it, as comments\n",
     );
+    let end = put_file(&mut out, end, kind);
     terminal::tell(&out, end, b"register and journal")
 }
 
@@ -90,7 +110,7 @@ fn take_back(
     }
     let installed = install(path, beside, journal, journal_beside);
     match installed {
-        Installed::Done => tell(call_of(text, found), &register),
+        Installed::Done => tell(call_of(text, found), found.kind, &register),
         _ => TROUBLE,
     }
 }
@@ -128,7 +148,7 @@ fn strike_out(
     let installed = files::install(journal, journal_beside, b"");
     files::release(fd, beside);
     match installed {
-        Installed::Done => tell(call_of(text, found), register),
+        Installed::Done => tell(call_of(text, found), found.kind, register),
         _ => TROUBLE,
     }
 }
@@ -225,19 +245,12 @@ fn lock(path: &[u8], journal: &[u8], calendar: &[u8], room: &mut [u8]) -> i32 {
         return TROUBLE;
     }
     let beside = text::part(&name, 0, end);
-    let fd = files::lock(path, beside);
+    let journal_beside = text::part(&journal_name, 0, journal_end);
+    let fd = files::lock_first(path, beside, journal_beside);
     if fd < 0 {
         return TROUBLE;
     }
-    with_files(
-        fd,
-        path,
-        beside,
-        journal,
-        text::part(&journal_name, 0, journal_end),
-        calendar,
-        room,
-    )
+    with_files(fd, path, beside, journal, journal_beside, calendar, room)
 }
 
 // `room` is for the journal's text.

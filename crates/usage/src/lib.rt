@@ -1,10 +1,12 @@
 // The first words: help, the version, and bad use, told in one line with the usage of the command behind it.
 use commands::COMMANDS;
 use commands::HELP;
+use commands::JOURNAL;
 use commands::LISTED;
 use commands::NO_FILE;
 use commands::UNKNOWN;
 use commands::VERSION;
+use commands::WITH_FILE;
 use libc::STDERR_FILENO;
 use libc::STDOUT_FILENO;
 
@@ -136,16 +138,16 @@ fn lacks_file(command: u32, i: usize) -> bool {
     is(i, b"-") && commands::kind(command, i) != NO_FILE && !commands::takes_stream(command, i)
 }
 
-fn is_journal_dash() -> bool {
+fn is_value_dash(option: u8) -> bool {
     let mut space = io::buffer();
-    let n = commands::journal(&mut space);
+    let n = commands::value(option, &mut space);
     text::same(text::part(&space, 0, n), b"-")
 }
 
 // Whether each word that is a dash may stand for a standard stream.
 fn files_fit(command: u32) -> bool {
     let lacks_one = lacks_file(command, 2) || lacks_file(command, 3) || lacks_file(command, 4);
-    if lacks_one || is_journal_dash() {
+    if lacks_one || is_value_dash(JOURNAL) || is_value_dash(WITH_FILE) {
         return wrong(
             command,
             b"- is a standard stream: ",
@@ -165,14 +167,15 @@ fn options_fit(command: u32) -> bool {
     if 0 < n {
         return wrong_option(command, text::part(&space, 0, n));
     }
-    if commands::lacks_journal() {
+    let lacking = commands::lacking_value();
+    if lacking < LISTED {
         return wrong(
             command,
-            b"--journal wants the name of a file behind it",
             b"",
             b"",
-            LISTED,
             b"",
+            lacking,
+            b" wants the name of a file behind it",
         );
     }
     true

@@ -1,4 +1,5 @@
 // Every refusal in words: first the cause with its number, then its own values, then what to do next.
+mod faults;
 mod forms;
 mod opening;
 mod parts;
@@ -7,6 +8,7 @@ mod sessions;
 mod strikes;
 
 use base::causes;
+pub use faults::file_refusal;
 pub use parts::bands;
 pub use parts::live_months;
 pub use parts::neighbours;

@@ -133,7 +133,8 @@ pub fn refusal(
           the day asked for lies before that: already done, or before the start; look at the journal\n\
           |d\n  \
           the register stands at %d; the next session is %d\n  \
-          that session is already done; sindhopul show CALENDAR REGISTER tells what it left\n\
+          that session is already done; sindhopul show CALENDAR REGISTER tells what it left\n  \
+          sindhopul file CALENDAR REGISTER FILE writes the file of its new series\n\
           |o\n  \
           the register stands at %d; the next session is %d\n  \
           left out: the session of %d at least\n  \

@@ -7,6 +7,7 @@
 
 mod calendar;
 mod dates;
+mod files;
 mod grid;
 mod names;
 mod numbers;
@@ -22,7 +23,7 @@ use run::Run;
 
 type Test = fn(&mut Run);
 
-const PARTS: [(&str, Test); 14] = [
+const PARTS: [(&str, Test); 19] = [
     ("days and months", dates::test),
     ("calendar checks", calendar::test_checks),
     ("Warsaw calendar", calendar::test_warsaw),
@@ -36,6 +37,11 @@ const PARTS: [(&str, Test); 14] = [
     ("full registers", register::test_full),
     ("made registers", register::test_made),
     ("damaged registers", register::test_damaged),
+    ("damaged files", files::test_damaged),
+    ("files cut off", files::test_lengths),
+    ("files of other fields", files::test_fields),
+    ("files of any bytes", files::test_any),
+    ("long files", files::test_long),
     ("two causes at once", orders::test),
 ];
 

@@ -82,7 +82,7 @@ pub fn compare_reading(run: &mut Run, name: &[u8]) -> u16 {
     expect_reading(run, name, independent_read(name))
 }
 
-fn name_of(month: u16, option_type: u16, price: u16) -> [u8; NAME_BYTES] {
+pub fn name_of(month: u16, option_type: u16, price: u16) -> [u8; NAME_BYTES] {
     let mut name = [0; NAME_BYTES];
     names::write(&mut name, month.into(), option_type.into(), price.into())
         .expect("the series has a name");

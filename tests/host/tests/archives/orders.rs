@@ -1,6 +1,7 @@
 //! Two causes at once: the one that the call tries first is told.
 
 use independent::dates::{third_friday, MONTHS};
+use independent::files::MOST_FILE_BYTES;
 use independent::grid::LOWEST_CLOSE;
 use independent::judge;
 use independent::register::{LATEST_FIRST_MONTH, REGISTER_BYTES};
@@ -9,7 +10,7 @@ use crate::register::pair::{Pair, Request};
 use crate::register::specimens::{self, CLOSE, JUNE, JUNE_EXPIRY};
 use crate::run::{Call, Run};
 use crate::sessions::{window, Sessions};
-use crate::{calendar, names};
+use crate::{calendar, files, names};
 
 /// Lets every two causes of every call meet. Each holds by itself too where its fault is made, so
 /// that of two faults the second would be told if the first were not.
@@ -54,7 +55,11 @@ fn expect(run: &mut Run, call: Call, faults: &[u16], wanted: u16) {
             names::compare_writing(run, length, JUNE.into(), 0, price)
         }
         Call::NameRead => names::compare_reading(run, &name(has)),
-        Call::Start | Call::Session | Call::Announce | Call::Rows => {
+        Call::FileRead => {
+            let length = if has(30) { 0 } else { MOST_FILE_BYTES };
+            files::compare_reading(run, &file(has), length, case)
+        }
+        Call::Start | Call::Session | Call::Announce | Call::Rows | Call::FileWrite => {
             let mut pair = Pair::of(&lent_calendar(has), &register(call, has));
             pair.call(run, request(call, has), case)
         }
@@ -130,7 +135,12 @@ fn request(call: Call, has: impl Fn(u16) -> bool) -> Request {
             },
         },
         Call::Rows => return Request::Rows { month },
-        Call::CalendarCheck | Call::NameWrite | Call::NameRead => {
+        Call::FileWrite => {
+            // No file is so short.
+            let length = if has(30) { 4 } else { MOST_FILE_BYTES };
+            return Request::File { length };
+        }
+        Call::CalendarCheck | Call::NameWrite | Call::NameRead | Call::FileRead => {
             unreachable!("{} takes no register", call.name())
         }
     };
@@ -147,4 +157,12 @@ fn name(has: impl Fn(u16) -> bool) -> Vec<u8> {
     let price = if has(28) { 2_401 } else { 2_400 };
     let more = if has(27) { "0" } else { "" };
     format!("OW20{letter}26{price}{more}").into_bytes()
+}
+
+fn file(has: impl Fn(u16) -> bool) -> Vec<u8> {
+    let mut file = files::small();
+    if has(31) {
+        file.pop();
+    }
+    file
 }

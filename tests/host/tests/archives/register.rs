@@ -5,6 +5,7 @@ mod closes;
 mod damaged;
 mod desk;
 mod full;
+mod lengths;
 mod lists;
 mod made;
 pub mod pair;

@@ -4,6 +4,9 @@
 const GUARD: usize = 63;
 const GUARD_BYTE: u8 = 0xa5;
 
+/// What stands in a buffer that is to be written.
+const BLANK_BYTE: u8 = 0x5a;
+
 /// A buffer between guard bytes.
 #[derive(Clone)]
 pub struct Room {
@@ -18,6 +21,10 @@ impl Room {
         }
     }
 
+    pub fn blank(length: usize) -> Self {
+        Self::of(&vec![BLANK_BYTE; length])
+    }
+
     pub fn content(&self) -> &[u8] {
         &self.bytes[GUARD..self.bytes.len() - GUARD]
     }
@@ -25,6 +32,10 @@ impl Room {
     /// So many bytes from the first on, a few more than there are at most.
     pub fn lend(&mut self, length: usize) -> &mut [u8] {
         &mut self.bytes[GUARD..][..length]
+    }
+
+    pub fn lend_all(&mut self) -> &mut [u8] {
+        self.lend(self.content().len())
     }
 
     pub fn set(&mut self, place: usize, byte: u8) {

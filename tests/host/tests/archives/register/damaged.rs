@@ -1,7 +1,9 @@
 //! Registers with one byte changed, at every place and by every call.
 
+use independent::files::MOST_FILE_BYTES;
 use independent::judge::Call;
 
+use super::lengths;
 use super::pair::{Pair, Request};
 use super::specimens::{self, Specimen, CLOSE, JUNE, JUNE_EXPIRY};
 use crate::numbers::Random;
@@ -38,12 +40,14 @@ fn other_bytes(place: usize, byte: u8, random: &mut Random) -> Vec<u8> {
 }
 
 /// A call of each kind, such that as few causes as can be come after 15.
-fn requests(specimen: &Specimen) -> [Request; 4] {
-    let (day, month) = match specimen.register() {
-        None => (JUNE_EXPIRY, JUNE),
+fn requests(specimen: &Specimen) -> [Request; 5] {
+    let (day, month, length) = match specimen.register() {
+        None => (JUNE_EXPIRY, JUNE, MOST_FILE_BYTES),
         Some(register) => (
             register.next_session(specimen.calendar()),
             register.rows[register.rows.len() - 1].month,
+            // Too short where the damage makes a row new.
+            lengths::of_file(&register),
         ),
     };
     let (day, month) = (day.into(), month.into());
@@ -56,5 +60,6 @@ fn requests(specimen: &Specimen) -> [Request; 4] {
         }
         .into(),
         Request::Rows { month },
+        Request::File { length },
     ]
 }

@@ -6,7 +6,7 @@ use independent::register::REGISTER_BYTES;
 use independent::{Calendar, History, Register};
 
 use super::pair::{Pair, Request};
-use super::rows;
+use super::{lengths, rows};
 use crate::run::Run;
 use crate::sessions::Sessions;
 
@@ -47,6 +47,13 @@ impl<'a> Desk<'a> {
     /// Compares the register with what the history demands.
     pub fn judge(&self, run: &mut Run, case: Arguments) {
         run.judged(self.history.judge(self.pair.bytes()), case);
+    }
+
+    /// Writes the file into buffers of every length around its own.
+    pub fn test_file(&mut self, run: &mut Run, case: Arguments) {
+        if let Some(register) = self.register() {
+            lengths::test_around(run, &register, &mut self.pair, case);
+        }
     }
 
     /// Asks for the rows of every month.

@@ -47,5 +47,6 @@ fn test_session(run: &mut Run, desk: &mut Desk, close: u32, case: Arguments) -> 
     let day = day.into();
     desk.call(run, Call::Session { day, close }, case);
     desk.judge(run, case);
+    desk.test_file(run, case);
     desk.register().map_or(0, |register| register.rows.len())
 }

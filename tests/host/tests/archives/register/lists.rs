@@ -11,6 +11,7 @@ use independent::Register;
 use super::announcements;
 use super::closes::{self, Move};
 use super::desk::Desk;
+use super::lengths;
 use super::pair::Request;
 use crate::numbers::Random;
 use crate::run::Run;
@@ -70,6 +71,9 @@ impl<'a> List<'a> {
         if self.number.is_multiple_of(50) {
             self.desk.test_rows(run, case);
         }
+        if self.number.is_multiple_of(5) {
+            self.desk.test_file(run, case);
+        }
     }
 
     fn test_call(&mut self, run: &mut Run, case: Arguments) {
@@ -113,14 +117,15 @@ impl<'a> List<'a> {
         let day = u32::from(self.start_day());
         let close = self.close;
         let random = &mut self.random;
-        let call = match random.below(6) {
+        let call = match random.below(7) {
             0 => return Request::Rows { month: 317 },
-            1 => Call::Session { day, close },
-            2 => Call::Announce {
+            1 => return Request::File { length: 5 },
+            2 => Call::Session { day, close },
+            3 => Call::Announce {
                 month: 317,
                 price: 2_400,
             },
-            3 => Call::Start {
+            4 => Call::Start {
                 day,
                 close: closes::refused(random),
             },
@@ -139,6 +144,10 @@ impl<'a> List<'a> {
             // Cut to 16 bits the greater numbers may be live.
             let month = near + random.pick(&[0, 0, 65_536]);
             return Request::Rows { month };
+        }
+        if random.one_in(8) {
+            let length = lengths::any(register, random);
+            return Request::File { length };
         }
         if !random.one_in(self.session_one_in) {
             let (month, price) = announcements::any(self.desk.calendar, register, random);

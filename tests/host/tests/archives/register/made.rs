@@ -4,13 +4,14 @@ use std::fmt::Arguments;
 
 use independent::calendar::live_tiers;
 use independent::dates::first_day;
+use independent::files::MOST_FILE_BYTES;
 use independent::grid::{self, HIGHEST_CLOSE, LOWEST_CLOSE};
 use independent::judge::Call;
 use independent::register::{Announcement, Origin, Row, LATEST_FIRST_MONTH, REGISTER_BYTES};
 use independent::{calls, Calendar, Register, RegisterError, Tier};
 
 use super::pair::{Pair, Request};
-use super::{announcements, closes};
+use super::{announcements, closes, lengths};
 use crate::numbers::Random;
 use crate::run::Run;
 use crate::sessions::{self, Sessions};
@@ -28,6 +29,10 @@ pub fn test(run: &mut Run) {
             maker.test_defects(run, random, case);
             maker.test_expiring(run, random, case);
             maker.test_too_late(run, random, case);
+        }
+        for first in 300..312 {
+            let case = format_args!("{kind}, all rows new, from month {first}");
+            maker.test_all_new(run, first, random, case);
         }
     }
 }
@@ -169,6 +174,30 @@ impl<'a> Maker<'a> {
         self.expect_malformed(run, &register, &[rows], case);
     }
 
+    /// All prices of all grids, new on the day: the longest file.
+    fn test_all_new(&self, run: &mut Run, first: u16, random: &mut Random, case: Arguments) {
+        let day = self.live_day(first, random);
+        let mut rows = Vec::new();
+        for (month, tier) in live_tiers(first) {
+            for &price in grid::prices(tier) {
+                rows.push(Row {
+                    month,
+                    price,
+                    first_day: day,
+                    origin: random.pick(&ORIGINS),
+                });
+            }
+        }
+        let register = Register {
+            day,
+            waiting: Vec::new(),
+            rows,
+        };
+        assert_eq!(lengths::of_file(&register), MOST_FILE_BYTES);
+        let mut pair = Pair::of(self.bytes, &written(&register));
+        lengths::test_around(run, &register, &mut pair, case);
+    }
+
     /// A well formed register with at least so many rows for each month.
     fn any_register(&self, least: usize, random: &mut Random) -> Register {
         let first = random.below(LATEST_FIRST_MONTH + 1);
@@ -192,7 +221,7 @@ impl<'a> Maker<'a> {
     }
 
     /// A call of each kind.
-    fn requests(&self, register: &Register, random: &mut Random) -> [Request; 4] {
+    fn requests(&self, register: &Register, random: &mut Random) -> [Request; 5] {
         let day = register.next_session(self.calendar).into();
         let anywhere = closes::anywhere(random);
         let close = random.pick(&[LOWEST_CLOSE, anywhere, HIGHEST_CLOSE]);
@@ -203,6 +232,9 @@ impl<'a> Maker<'a> {
             Call::Session { day, close }.into(),
             Call::Announce { month, price }.into(),
             Request::Rows { month: near_first },
+            Request::File {
+                length: lengths::any(register, random),
+            },
         ]
     }
 
@@ -233,15 +265,21 @@ const ORIGINS: [Origin; 5] = [
     Origin::Start,
 ];
 
-/// Ladders anywhere on the grids of the live months, with any first days and origins.
+/// Ladders anywhere on the grids of the live months, with any first days and origins; few of the
+/// rows are new on the day, or many, or all.
 fn made(first: u16, day: u16, least: usize, random: &mut Random) -> Register {
+    let new_one_in = random.pick(&[1, 5, 30, 1_000]);
     let mut rows = Vec::new();
     for (month, tier) in live_tiers(first) {
         for &price in stretch(tier, least, random) {
             rows.push(Row {
                 month,
                 price,
-                first_day: random.within(0..=day.into()) as u16,
+                first_day: if random.one_in(new_one_in) {
+                    day
+                } else {
+                    random.within(0..=day.into()) as u16
+                },
                 origin: random.pick(&ORIGINS),
             });
         }

@@ -2,10 +2,12 @@
 
 use std::fmt::Arguments;
 
+use independent::files::{self, FileError};
 use independent::judge::Call;
 use independent::{calls, CalendarError, Listing, RegisterError};
 use sindhopul::raw::{self, ListingResult};
 
+use crate::files::{compare_reading, list_length};
 use crate::room::Room;
 use crate::run::{self, Run};
 
@@ -13,7 +15,23 @@ use crate::run::{self, Run};
 #[derive(Debug, Clone, Copy)]
 pub enum Request {
     Change(Call),
-    Rows { month: u32 },
+    Rows {
+        month: u32,
+    },
+    /// The file, in a buffer of so many bytes.
+    File {
+        length: usize,
+    },
+}
+
+impl Request {
+    /// How long a buffer is lent beside calendar and register.
+    fn buffer_length(self) -> usize {
+        match self {
+            Self::File { length } => length,
+            Self::Change(_) | Self::Rows { .. } => 0,
+        }
+    }
 }
 
 impl From<Call> for Request {
@@ -109,7 +127,8 @@ impl Registers {
         self.call_on_part(run, calendar, length, request, case)
     }
 
-    /// Makes a call of both, and compares what it says and every byte it could have written.
+    /// Makes a call of both, and compares what it says and every byte it could have written. A
+    /// file that was written is read too.
     fn call_on_part(
         &mut self,
         run: &mut Run,
@@ -119,14 +138,26 @@ impl Registers {
         case: Arguments,
     ) -> u16 {
         let lent = calendar.clone();
-        let archive = ask_archive(request, lent.content(), self.archive.lend(length));
-        let wanted = ask_engine(request, calendar.content(), self.engine.lend(length));
+        let mut file = Room::blank(request.buffer_length());
+        let mut wanted_file = file.clone();
+        let (register, buffer) = (self.archive.lend(length), file.lend_all());
+        let archive = ask_archive(request, lent.content(), register, buffer);
+        let (register, buffer) = (self.engine.lend(length), wanted_file.lend_all());
+        let wanted = ask_engine(request, calendar.content(), register, buffer);
         let case = format_args!("{case}, {request:?}");
-        run.count(counted(request), archive[0]);
+        let number = archive[0] as u16;
+        run.count(counted(request), number);
         run.equal(archive, wanted, case);
         run.equal_rooms(&self.archive, &self.engine, "register", case);
         run.equal_rooms(&lent, calendar, "calendar", case);
-        archive[0]
+        if let Request::File { .. } = request {
+            run.equal_rooms(&file, &wanted_file, "file", case);
+            if number == 0 {
+                let file = &file.content()[..archive[1] as usize];
+                compare_reading(run, file, list_length(file), case);
+            }
+        }
+        number
     }
 }
 
@@ -136,15 +167,22 @@ fn counted(request: Request) -> run::Call {
         Request::Change(Call::Session { .. }) => run::Call::Session,
         Request::Change(Call::Announce { .. }) => run::Call::Announce,
         Request::Rows { .. } => run::Call::Rows,
+        Request::File { .. } => run::Call::FileWrite,
     }
 }
 
 /// The number that a call returns, its values in their order, then zeros.
-type Answer = [u16; 4];
+type Answer = [u32; 4];
 
-fn ask_archive(request: Request, calendar: &[u8], register: &mut [u8]) -> Answer {
-    let listing =
-        |result: ListingResult| [result.number, result.added, result.removed, result.rows];
+fn ask_archive(
+    request: Request,
+    calendar: &[u8],
+    register: &mut [u8],
+    buffer: &mut [u8],
+) -> Answer {
+    let listing = |result: ListingResult| {
+        [result.number, result.added, result.removed, result.rows].map(u32::from)
+    };
     match request {
         Request::Change(Call::Start { day, close }) => {
             listing(raw::start(calendar, register, day, close))
@@ -154,17 +192,22 @@ fn ask_archive(request: Request, calendar: &[u8], register: &mut [u8]) -> Answer
         }
         Request::Change(Call::Announce { month, price }) => {
             let result = raw::announce(calendar, register, month, price);
-            [result.number, result.waiting, 0, 0]
+            [result.number, result.waiting, 0, 0].map(u32::from)
         }
         Request::Rows { month } => {
             let result = raw::rows(calendar, register, month);
-            [result.number, result.at, result.size, 0]
+            [result.number, result.at, result.size, 0].map(u32::from)
+        }
+        Request::File { .. } => {
+            let result = raw::file_write(calendar, register, buffer);
+            [result.number.into(), result.length, 0, 0]
         }
     }
 }
 
-fn ask_engine(request: Request, calendar: &[u8], register: &mut [u8]) -> Answer {
-    let listing = |listing: Listing| [0, listing.added, listing.removed, listing.rows];
+fn ask_engine(request: Request, calendar: &[u8], register: &mut [u8], buffer: &mut [u8]) -> Answer {
+    let listing =
+        |listing: Listing| [0, listing.added, listing.removed, listing.rows].map(u32::from);
     match request {
         Request::Change(Call::Start { day, close }) => {
             calls::start(calendar, register, day, close).map_or_else(refusal, listing)
@@ -174,11 +217,16 @@ fn ask_engine(request: Request, calendar: &[u8], register: &mut [u8]) -> Answer 
         }
         Request::Change(Call::Announce { month, price }) => {
             calls::announce(calendar, register, month, price)
-                .map_or_else(refusal, |waiting| [0, waiting, 0, 0])
+                .map_or_else(refusal, |waiting| [0, waiting.into(), 0, 0])
         }
         Request::Rows { month } => match calls::rows(calendar, register, month) {
-            Ok(part) => [0, part.start as u16, part.len() as u16, 0],
-            Err(error) => [error.number(), 0, 0, 0],
+            Ok(part) => [0, part.start as u32, part.len() as u32, 0],
+            Err(error) => [error.number().into(), 0, 0, 0],
+        },
+        Request::File { .. } => match files::write(calendar, register, buffer) {
+            Ok(length) => [0, length as u32, 0, 0],
+            Err(FileError::Register(error)) => refusal(error),
+            Err(error) => [error.number().into(), 0, 0, 0],
         },
     }
 }
@@ -189,5 +237,5 @@ fn refusal(error: RegisterError) -> Answer {
         RegisterError::Calendar(CalendarError::NoSession { month }) => month,
         _ => 0,
     };
-    [error.number(), month, 0, 0]
+    [error.number(), month, 0, 0].map(u32::from)
 }

@@ -11,10 +11,12 @@ pub enum Call {
     Rows,
     NameWrite,
     NameRead,
+    FileWrite,
+    FileRead,
 }
 
 impl Call {
-    pub const ALL: [Self; 7] = [
+    pub const ALL: [Self; 9] = [
         Self::CalendarCheck,
         Self::Start,
         Self::Session,
@@ -22,6 +24,8 @@ impl Call {
         Self::Rows,
         Self::NameWrite,
         Self::NameRead,
+        Self::FileWrite,
+        Self::FileRead,
     ];
 
     pub fn name(self) -> &'static str {
@@ -33,6 +37,8 @@ impl Call {
             Self::Rows => "rows",
             Self::NameWrite => "name_write",
             Self::NameRead => "name_read",
+            Self::FileWrite => "file_write",
+            Self::FileRead => "file_read",
         }
     }
 
@@ -46,6 +52,8 @@ impl Call {
             Self::Rows => &[0, 11, 12, 13, 14, 15, 17, 26],
             Self::NameWrite => &[0, 27, 28],
             Self::NameRead => &[0, 27, 29, 28],
+            Self::FileWrite => &[0, 11, 12, 13, 14, 15, 17, 30],
+            Self::FileRead => &[0, 31, 30],
         }
     }
 }

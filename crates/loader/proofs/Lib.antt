@@ -1,0 +1,9 @@
+pub mod Climbing
+pub mod Rises
+pub mod Years
+pub mod Listed
+pub mod Found
+pub mod Reader
+pub mod NewRows
+pub mod Series
+pub mod Answers
