@@ -168,7 +168,7 @@ mkdir shut
 cp series shut/series
 if [ "$(id -u)" -ne 0 ]; then
     chmod 555 shut
-    trouble 'shut/series.new: Permission denied' session calendar register 2026-11-18 2700.00 --journal journal --file shut/series
+    messages=/dev/null trouble 'shut/series.new: Permission denied' session calendar register 2026-11-18 2700.00 --journal journal --file shut/series
     chmod 755 shut
 fi
 trouble 'no/such/series' session calendar register 2026-11-18 2700.00 --journal journal --file no/such/series
