@@ -101,9 +101,6 @@ module _ (cal bs : List ℕ) (l : length bs ≡ registerLength) (r : Running cal
   pub rows-most : at16 bs 4 ≤ 1391
   rows-most = run-keeps cal bs l r .count
 
-  pub rows-some : 0 < at16 bs 4
-  rows-some = first-read bs rowsFrom (at16 bs 4) (firstAt cal (momentOf bs)) held .0
-
   pub rows-inside : rowsFrom + 8 * at16 bs 4 ≤ length bs
   rows-inside = omega (arith, rows-most)
 
