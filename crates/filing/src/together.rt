@@ -1,6 +1,6 @@
 // A register and the file of its new series, replaced together.
 //
-// Both new files are made before anything is read, and written before anything moves. The file moves first, the register at once
+// Both new files are made before the register is read, and written before anything moves. The file moves first, the register at once
 // behind it. A run that is cut off between the two leaves the old register: the same command is accepted again and completes the
 // work. The names are those of the new files; that of the file is empty where none is asked for.
 use commands::WITH_FILE;

@@ -53,7 +53,7 @@ fn content_stands(tag: u8, place: usize, byte: u8) -> bool
 }
 
 // Whether a byte can stand at a place of a field with this tag; the first field is the day's.
-pub fn can_stand(first: bool, tag: u8, place: usize, byte: u8) -> bool
+fn can_stand(first: bool, tag: u8, place: usize, byte: u8) -> bool
     requires { ⌜ place < 65536 ⌝ }
     ensures { λ r. ⌜ r ≡ byteStands first tag place byte ⌝ }
 {
