@@ -264,17 +264,19 @@ expect 0 '' session calendar register 2026-11-18 2700.00 --file series
 head -c 80 series >some
 "$here/series.py" faults "$program" some
 
-# Thousands of series are all told; a reader that goes early is no crash; one byte more than is read is told.
-"$here/series.py" many 279619 >long
-[ "$(wc -c <long)" -le 4194304 ] || fail "the long file is too long"
+# A file that names every series is told whole; a reader that goes early is no crash; one byte more than it has is told.
+"$here/series.py" many 1216800 >long
 "$here/series.py" words long >"$work/words"
 expect 0 '' series long
 cmp "$work/words" "$work/out" >&2 || fail "not all of a long file is told"
-"$here/series.py" many 279620 >longer
-trouble 'longer: the file is longer than it may be: it is read up to 4194304 bytes' series longer
+{
+    cat long
+    printf '\2'
+} >longer
+trouble 'longer: the file is longer than it may be: it is read up to 18252005 bytes' series longer
 trouble 'standard input: the file is longer than it may be' series - <longer
 { "$program" series long 2>"$work/err" || echo "$?" >"$work/status"; } | head -n 1 >"$work/out"
-[ "$(cat "$work/out" "$work/status")" = '2026-11-16: 279619 series
+[ "$(cat "$work/out" "$work/status")" = '2026-11-16: 1216800 series
 2' ] || fail "to a reader that went early the program said $(cat "$work/out") and ended with $(cat "$work/status")"
 grep -q 'could not be written: Broken pipe' "$work/err" || fail "a reader that went early is told as: $(cat "$work/err")"
 lost full '' series series

@@ -13,8 +13,8 @@ use files::Installed;
 use files::Loaded;
 use filing::Locks;
 use filing::Saved;
+use keeping::Kept;
 use libc::STDOUT_FILENO;
-use recording::Kept;
 use report::Totals;
 use terminal::DONE;
 use terminal::TROUBLE;
@@ -174,7 +174,7 @@ fn carry_out(
     beside: &[u8],
     file_beside: &[u8],
 ) -> Installed {
-    if !recording::record(kept, kind, pairs, answer) {
+    if !keeping::record(kept, kind, pairs, answer) {
         filing::discard(beside, file_beside);
         return Installed::Failed;
     }
@@ -193,7 +193,7 @@ fn turn_down(
     calendar: &[u8],
     register: &[u8],
 ) -> i32 {
-    let is_kept = recording::record(kept, kind, pairs, answer);
+    let is_kept = keeping::record(kept, kind, pairs, answer);
     filing::release(locks, beside, file_beside);
     if is_kept {
         let pair = first(pairs);
@@ -260,7 +260,7 @@ fn settle(
     after: &[u8],
     room: &mut [u8],
 ) -> i32 {
-    let kept = recording::look(calendar, before, kind, pairs, answer.number, room);
+    let kept = keeping::look(calendar, before, kind, pairs, answer.number, room);
     if let Kept::Bad = kept {
         filing::release(locks, beside, file_beside);
         return TROUBLE;

@@ -11,6 +11,7 @@ use commands::SERIES;
 use commands::SESSION;
 use commands::START;
 use commands::UNDO;
+use space::JOURNAL_LENGTH;
 use terminal::DONE;
 use terminal::TROUBLE;
 use usage::Words;
@@ -51,17 +52,18 @@ fn with_journal(command: u32, room: &mut [u8]) -> i32 {
     }
 }
 
-// The text of a journal takes half of the stack that a program has, so that there is room for one alone, and one function alone
-// has it: a file of series is read into the same.
-fn with_room(command: u32) -> i32 {
-    let mut room = space::journal();
+// A file of series may take all of the room, the text of a journal as much as a journal may have.
+fn with_room(command: u32, room: &mut [u8]) -> i32 {
     if command == SERIES {
-        return filing::read(&mut room);
+        return filing::read(room);
     }
-    with_journal(command, &mut room)
+    if room.len() < JOURNAL_LENGTH {
+        return with_journal(command, room);
+    }
+    with_journal(command, &mut room[0..JOURNAL_LENGTH])
 }
 
-fn act(command: u32) -> i32 {
+fn act(command: u32, room: &mut [u8]) -> i32 {
     if !guard::is_clear(command) {
         return TROUBLE;
     }
@@ -69,16 +71,17 @@ fn act(command: u32) -> i32 {
         CALENDAR => answers::make_calendar(),
         CHECK => answers::check(),
         NAME => answers::name(),
-        START | SESSION | ANNOUNCE | REPLAY | AUDIT | UNDO | SERIES => with_room(command),
+        START | SESSION | ANNOUNCE | REPLAY | AUDIT | UNDO | SERIES => with_room(command, room),
         _ => with_calendar(command),
     }
 }
 
-pub fn run() -> i32 {
+// `room` is for the text of a journal, or for a file of series.
+pub fn run(room: &mut [u8]) -> i32 {
     terminal::hold_streams();
     let words = usage::first_words();
     match words {
-        Words::Go(command) => act(command),
+        Words::Go(command) => act(command, room),
         Words::Helped => DONE,
         Words::Wrong => TROUBLE,
     }
@@ -86,6 +89,6 @@ pub fn run() -> i32 {
 
 // The same for a main in C, which passes the exit status on.
 #[no_mangle]
-pub extern "C" fn sindhopul_console() -> i32 {
-    run()
+pub extern "C" fn sindhopul_console(room: &mut [u8]) -> i32 {
+    run(room)
 }

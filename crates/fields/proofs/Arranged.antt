@@ -5,10 +5,12 @@ use mathlib.Core.Bool.{Bool, true, false, cond, _&&_}
 use mathlib.Core.List.{List, [], _∷_, _++_}
 use mathlib.Core.Option.{Option, none, some}
 use Prim.Native.Nat.{ℕ}
-use Rattle.base.proofs.Tests.{byBool, clash, and-l, and-r}
-use Rattle.fields.specs.Fields.{Field, nameIn, below, rising}
+use Rattle.base.proofs.Tests.{byBool, clash, and-l, and-r, and-i}
+use Rattle.names.specs.Names.{readCause}
+use Rattle.fields.specs.Fields.{Field, nameIn, isSeries, allSeries, below, rising}
 use Rattle.fields.specs.Arranged.{putIn, arranged}
 use Rattle.fields.proofs.Order.{asym, level, irrefl, same, same-self, same-is, same-less, rises-head, rises-tail, rises-on, rises-none, rises-lower}
+use Rattle.fields.proofs.Shape.{is-series}
 
 -- the field that has a name
 unfoldable pub lookup : List ℕ → List Field → Option Field
@@ -171,3 +173,28 @@ arranged-is low fs gs a r h = only-one low (arranged fs) gs (arranged-rises low 
 
 pub swapped : (low n : List ℕ) (fs gs : List Field) → rising low (fs ++ gs) ≡ true → lookup n (gs ++ fs) ≡ lookup n (fs ++ gs)
 swapped low n fs gs r = found-append n gs fs ∙ sym (apart low n fs gs r) ∙ sym (found-append n fs gs)
+
+-- ---- fields of series alone stay so when they are arranged
+put-series : (f : Field) (gs : List Field) → isSeries f ≡ true → allSeries gs ≡ true → allSeries (putIn f gs) ≡ true
+unfolding allSeries putIn
+put-series f [] h a = and-i h a
+put-series f (g ∷ gs) h a =
+    byBool (below (nameIn f) (nameIn g))
+    (λ e. rw e (and-i h a))
+    (λ e. byBool (below (nameIn g) (nameIn f))
+    (λ d. rw (e, d) (and-i (and-l (isSeries g) (allSeries gs) a) (put-series f gs h (and-r (isSeries g) (allSeries gs) a))))
+    (λ d. rw (e, d) (and-i h (and-r (isSeries g) (allSeries gs) a))))
+
+pub arranged-series : (fs : List Field) → allSeries fs ≡ true → allSeries (arranged fs) ≡ true
+unfolding allSeries arranged
+arranged-series [] a = refl
+arranged-series (f ∷ fs) a = put-series f (arranged fs) (and-l (isSeries f) (allSeries fs) a) (arranged-series fs (and-r (isSeries f) (allSeries fs) a))
+
+-- bytes that are no series' name have no field among such
+pub found-none : (n : List ℕ) (fs : List Field) → (readCause n ≡ 0 → ⊥) → allSeries fs ≡ true → lookup n fs ≡ none
+unfolding lookup allSeries
+found-none n [] h a = refl
+found-none n (f ∷ fs) h a =
+    byBool (same n (nameIn f))
+    (λ e. absurd (h (ap readCause (same-is n (nameIn f) e) ∙ is-series f (and-l (isSeries f) (allSeries fs) a) .reads)))
+    (λ e. rw e (found-none n fs h (and-r (isSeries f) (allSeries fs) a)))

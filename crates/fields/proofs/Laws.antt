@@ -2,7 +2,7 @@
 -- Assumes nothing.
 use mathlib.Core.Path.{_≡_, refl, sym, ap, _∙_}
 use mathlib.Core.Bool.{Bool, true, false}
-use mathlib.Core.List.{List, [], _∷_, _++_}
+use mathlib.Core.List.{List, [], _∷_, _++_, append-assoc}
 use Prim.Native.Nat.{ℕ, zero, suc, _+_, _*_, _≤_, _<_}
 use native.Mathlib.Omega.{arith}
 use lib.Dec.{ltb}
@@ -55,6 +55,11 @@ all-on f fs s a = and-i s a
 all-none : allSeries [] ≡ true
 unfolding allSeries
 all-none = refl
+
+pub fields-append : (fs gs : List Field) → fieldsBytes (fs ++ gs) ≡ fieldsBytes fs ++ fieldsBytes gs
+unfolding fieldsBytes two
+fields-append [] gs = refl
+fields-append (f ∷ fs) gs = rw (fields-append fs gs, append-assoc)
 
 bytes-none : fieldsBytes [] ≡ []
 unfolding fieldsBytes

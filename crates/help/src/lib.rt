@@ -224,7 +224,7 @@ fn series(fd: i32) -> bool {
         b"
 The day of a file of series and how many it has, then for each its name, month, type, strike and origin. Bytes that are
 no such file are refused, with the first place that is wrong, what stands there and what belongs there.
-  FILE   up to 4,194,304 bytes; - is standard input
+  FILE   up to 18,252,005 bytes, which name every series; - is standard input
 ",
     )
 }

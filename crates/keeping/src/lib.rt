@@ -1,8 +1,13 @@
 // Register and journal belong together: whether a file is the journal of a register, whole and true, and how the register
-// stands to it. What is not as it should be is told, with the way on.
+// stands to it. What is not as it should be is told, with the way on. A call is kept in a journal that is in step.
+mod recording;
+
 use commands::WITH_FILE;
 use journal::Line;
 use matching::Found;
+pub use recording::Kept;
+pub use recording::look;
+pub use recording::record;
 
 pub enum Standing {
     // The register is exactly what the journal gives.

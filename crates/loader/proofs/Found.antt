@@ -20,13 +20,10 @@ use Rattle.names.specs.Names.{nameLength, digits, letter, prefix, nameOf, readC
 use Rattle.names.proofs.DigitLaws.{digits-length}
 use Rattle.names.proofs.NameLaws.{name-length, reads-back}
 use Rattle.layout.specs.Rows.{Entry, Row, find}
-use Rattle.fields.specs.Fields.{Field, seriesField, nameIn, originIn, isSeries, allSeries, below}
-use Rattle.fields.specs.Arranged.{putIn, arranged}
-use Rattle.fields.proofs.Order.{same, same-self, same-is}
+use Rattle.fields.specs.Fields.{Field, seriesField, nameIn, originIn, isSeries, allSeries}
+use Rattle.fields.proofs.Order.{same, same-self}
 use Rattle.fields.proofs.Digits.{parted, ordered, one-byte}
 use Rattle.fields.proofs.Arranged.{lookup}
-use Rattle.fields.proofs.Shape.{is-series}
-use Rattle.fields.proofs.Laws.{all-head, all-tail}
 use Rattle.loader.specs.Loader.{newRows, seriesOf}
 use Rattle.loader.proofs.Climbing.{Each, keyOf, Climbs, climbs-lower}
 use Rattle.loader.proofs.Rises.{name-in}
@@ -50,31 +47,6 @@ pub all-series : (k : ℕ) → k < 2 → (rs : List Row) (rest : List Field) →
 unfolding allSeries seriesOf
 all-series k h [] rest e a = a
 all-series k h (r ∷ rs) rest e a = and-i (row-series k h r (e .0)) (all-series k h rs rest (e .1) a)
-
--- and stays so when they are arranged
-put-series : (f : Field) (gs : List Field) → isSeries f ≡ true → allSeries gs ≡ true → allSeries (putIn f gs) ≡ true
-unfolding allSeries putIn
-put-series f [] h a = and-i h a
-put-series f (g ∷ gs) h a =
-    byBool (below (nameIn f) (nameIn g))
-    (λ e. rw e (and-i h a))
-    (λ e. byBool (below (nameIn g) (nameIn f))
-    (λ d. rw (e, d) (and-i (and-l (isSeries g) (allSeries gs) a) (put-series f gs h (and-r (isSeries g) (allSeries gs) a))))
-    (λ d. rw (e, d) (and-i h (and-r (isSeries g) (allSeries gs) a))))
-
-pub arranged-series : (fs : List Field) → allSeries fs ≡ true → allSeries (arranged fs) ≡ true
-unfolding allSeries arranged
-arranged-series [] a = refl
-arranged-series (f ∷ fs) a = put-series f (arranged fs) (and-l (isSeries f) (allSeries fs) a) (arranged-series fs (and-r (isSeries f) (allSeries fs) a))
-
--- bytes that are no series' name have no field among such
-pub found-none : (n : List ℕ) (fs : List Field) → (readCause n ≡ 0 → ⊥) → allSeries fs ≡ true → lookup n fs ≡ none
-unfolding lookup
-found-none n [] h a = refl
-found-none n (f ∷ fs) h a =
-    byBool (same n (nameIn f))
-    (λ e. absurd (h (ap readCause (same-is n (nameIn f) e) ∙ is-series f (all-head f fs a) .reads)))
-    (λ e. rw e (found-none n fs h (all-tail f fs a)))
 
 -- ---- names are the same where letter, year and price are
 name-same : (m k p m′ k′ p′ : ℕ) → m < 1200 → p < 10000 → m′ < 1200 → p′ < 10000

@@ -14,6 +14,7 @@ use Rattle.base.proofs.Parts.{whole-part, put-rest}
 use Rattle.names.specs.Names.{nameOf}
 use Rattle.layout.specs.Rows.{Row}
 use Rattle.fields.specs.Fields.{Field, fieldsBytes, dayField, seriesField, fileOf}
+use Rattle.fields.proofs.Laws.{fields-append}
 use Rattle.loader.specs.Loader.{newRows, seriesOf}
 use Rattle.loader.specs.Parts.{sequence}
 use Rattle.loader.proofs.Rises.{both}
@@ -27,11 +28,6 @@ pub put-behind : (start front bytes : List ℕ) (n : ℕ) → bytes ≡ front ++
 put-behind start front bytes n e l new last m w =
     put-rest n bytes last
     ∙ rw (w, whole-part n bytes, e, take-at front (drop n start) n l, drop-at front (drop n start) n l, drop-drop m n start, append-assoc)
-
-fields-append : (fs gs : List Field) → fieldsBytes (fs ++ gs) ≡ fieldsBytes fs ++ fieldsBytes gs
-unfolding fieldsBytes two
-fields-append [] gs = refl
-fields-append (f ∷ fs) gs = rw (fields-append fs gs, append-assoc)
 
 -- ---- a series: tag, length, name and origin
 module _ (name : List ℕ) (origin : ℕ) (eleven : length name ≡ 11) where

@@ -43,11 +43,14 @@ pub fn list() -> [u8; 1048576]
     [0; 1048576]
 }
 
-// The text of a journal.
-pub fn journal() -> [u8; 4194304]
+// How long the text of a journal may be.
+pub const JOURNAL_LENGTH: usize = 4194304;
+
+// The text of a journal. It takes half of the stack that a program has.
+pub fn journal() -> [u8; JOURNAL_LENGTH]
     ensures { λ r. ⌜ 4194304 ≡ length r ⌝ }
 {
-    [0; 4194304]
+    [0; JOURNAL_LENGTH]
 }
 
 // A byte for each of a journal's calls, its kind or the number of its pairs: a century of sessions and many announcements.

@@ -1,9 +1,11 @@
 // A line for each call in the journal that --journal names.
+use crate::Standing;
+use crate::complain_ahead;
+use crate::judge;
 use calls::Answer;
 use calls::START;
 use commands::JOURNAL;
 use files::Loaded;
-use keeping::Standing;
 use matching::Found;
 
 // How a journal is for a call that is to be kept in it.
@@ -43,7 +45,7 @@ fn ahead(
         );
         return Kept::Already;
     }
-    keeping::complain_ahead(path, lines::line(text, found.line));
+    complain_ahead(path, lines::line(text, found.line));
     Kept::Bad
 }
 
@@ -58,7 +60,7 @@ fn judged(
     pairs: &[[u32; 2]],
     number: u16,
 ) -> Kept {
-    let standing = keeping::judge(path, text, calendar, register, kind == START);
+    let standing = judge(path, text, calendar, register, kind == START);
     match standing {
         Standing::InStep(_found) => {
             if size < text.len() {
