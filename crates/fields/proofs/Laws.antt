@@ -26,7 +26,7 @@ use Rattle.fields.proofs.Shape.{Shaped, ahead, front-shaped, front-byte
 use Rattle.fields.proofs.Steps.{spent, step-good, shorter, day-tag, day-room, day-right, file-wrong, file-late, file-series, not-bad, behind-on, behind-good, not-faulty, dated-good}
 pub use Rattle.fields.proofs.Shape.{right}
 pub use Rattle.fields.proofs.Steps.{step-wrong, step-unfit, step-taken, none-good}
-pub use Rattle.fields.proofs.Lowest.{told-within, told-lowest}
+pub use Rattle.fields.proofs.Places.{told-within, place-lowest, place-none}
 
 -- ---- lists that a file can have, taken apart and put together
 taken-is : (last : List ℕ) (f : Field) → taken last f ≡ true → (elem (priceRead (nameIn f)) (gridOf N) ≡ true) × (below last (nameIn f) ≡ true)

@@ -3,6 +3,6 @@ pub mod Digits
 pub mod Arranged
 pub mod Shape
 pub mod Steps
-pub mod Lowest
+pub mod Places
 pub mod Laws
 pub mod Examples

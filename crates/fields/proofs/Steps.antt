@@ -82,18 +82,12 @@ module _ (bs : List ℕ) (w : someIn (wrong true bs) 0 5 ≡ false) where
   unfolding fieldSize contentSize
   day-right = rw day-tag w
 
--- ---- a list is no place, and what is told is told of the rest
+-- ---- a list is no place; what stands behind a field, and behind the day
 pub not-bad : {X : Type 0} (place : ℕ) (t : Rest) (fs : List Field) → t ≡ bad place → t ≡ good fs → X
 not-bad place t fs e g = let z : _≡_ {A = ℕ} 0 1 = cc in absurd (omega arith)
 
 pub not-faulty : {X : Type 0} (place day : ℕ) (t : File) (fs : List Field) → t ≡ faulty place → t ≡ dated day fs → X
 not-faulty place day t fs e g = let z : _≡_ {A = ℕ} 0 1 = cc in absurd (omega arith)
-
-pub place-is : (t : Rest) (p k : ℕ) → t ≡ bad p → t ≡ bad k → p ≡ k
-place-is t p k e g = cc
-
-pub fault-is : (t : File) (p k : ℕ) → t ≡ faulty p → t ≡ faulty k → p ≡ k
-fault-is t p k e g = cc
 
 pub behind-on : (f : Field) (fs : List Field) → behind f (good fs) ≡ good (f ∷ fs)
 unfolding behind
@@ -104,17 +98,7 @@ unfolding behind
 behind-good f (good gs) fs e = (gs, refl, cc)
 behind-good f (bad place) fs e = not-bad place (bad place) fs refl e
 
-pub behind-bad : (f : Field) (t : Rest) (p : ℕ) → behind f t ≡ bad p → t ≡ bad p
-unfolding behind
-behind-bad f (good fs) p e = not-bad p (good (f ∷ fs)) (f ∷ fs) e refl
-behind-bad f (bad place) p e = e
-
 pub dated-good : (d : ℕ) (t : Rest) (day : ℕ) (fs : List Field) → ofDay d t ≡ dated day fs → (d ≡ day) × (t ≡ good fs)
 unfolding ofDay
 dated-good d (good gs) day fs e = (cc, cc)
 dated-good d (bad place) day fs e = not-faulty place day (faulty place) fs refl e
-
-pub dated-bad : (day : ℕ) (t : Rest) (p : ℕ) → ofDay day t ≡ faulty p → t ≡ bad p
-unfolding ofDay
-dated-bad day (good fs) p e = not-faulty p day (dated day fs) fs e refl
-dated-bad day (bad place) p e = cc

@@ -1,3 +1,4 @@
 pub mod Fields
 pub mod Arranged
 pub mod Reading
+pub mod Places

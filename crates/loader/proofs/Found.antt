@@ -20,7 +20,7 @@ use Rattle.names.specs.Names.{nameLength, digits, letter, prefix, nameOf, readC
 use Rattle.names.proofs.DigitLaws.{digits-length}
 use Rattle.names.proofs.NameLaws.{name-length, reads-back}
 use Rattle.layout.specs.Rows.{Entry, Row, find}
-use Rattle.fields.specs.Fields.{Field, seriesField, nameIn, originIn, isSeries, allSeries}
+use Rattle.fields.specs.Fields.{Field, seriesField, originIn, isSeries, allSeries}
 use Rattle.fields.proofs.Order.{same, same-self}
 use Rattle.fields.proofs.Digits.{parted, ordered, one-byte}
 use Rattle.fields.proofs.Arranged.{lookup}
