@@ -14,14 +14,9 @@ import subprocess
 import sys
 from datetime import date, timedelta
 
+from origins import ORIGINS
+
 PRICES = [*range(5, 476, 5), *range(480, 991, 10), *range(1000, 9976, 25)]
-ORIGINS = {
-    1: "its month became live",
-    2: "within the span before",
-    3: "brought in by the close",
-    4: "announced",
-    5: "listed at the start",
-}
 LAST_DAY = 36524
 DIGITS = b"0123456789"
 LETTERS = b"ABCDEFGHIJKLMNOPQRSTUVWX"

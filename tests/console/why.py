@@ -11,6 +11,8 @@ from bisect import bisect_left
 from datetime import date, timedelta
 from functools import lru_cache
 
+from origins import ORIGINS
+
 LAST_FIRST_MONTH = 1190
 QUESTIONS = 250
 BANDS = (
@@ -20,13 +22,6 @@ BANDS = (
 )
 GRIDS = [[price for low, high, step in bands for price in range(low, high + 1, step)] for bands in BANDS]
 NEIGHBOURS = (16, 8, 4)
-ORIGINS = {
-    1: "its month became live",
-    2: "within the span before",
-    3: "brought in by the close",
-    4: "announced",
-    5: "listed at the start",
-}
 
 program, calendar_path, *register_paths = sys.argv[1:]
 calendar = int.from_bytes(open(calendar_path, "rb").read(), "little")

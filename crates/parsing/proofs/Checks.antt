@@ -43,10 +43,10 @@ module _ (first : Bool) (file : List ℕ) (at j : ℕ) where
       rw (lt-ltb j (length (drop at file)) (simp length-drop h), getD-drop at file 0 0, add-zero at, getD-drop at file j 0)
 
 -- ---- a series' field by a table: the least and the greatest byte that can stand at each place
-abbrev least : List ℕ
+abbrev pub least : List ℕ
 least = 2 ∷ 12 ∷ 0 ∷ 79 ∷ 87 ∷ 50 ∷ 48 ∷ 65 ∷ 48 ∷ 48 ∷ 48 ∷ 48 ∷ 48 ∷ 48 ∷ 1 ∷ []
 
-abbrev greatest : List ℕ
+abbrev pub greatest : List ℕ
 greatest = 2 ∷ 12 ∷ 0 ∷ 79 ∷ 87 ∷ 50 ∷ 48 ∷ 88 ∷ 57 ∷ 57 ∷ 57 ∷ 57 ∷ 57 ∷ 57 ∷ 5 ∷ []
 
 abbrev between : ℕ → ℕ → Bool

@@ -101,15 +101,14 @@ fn is_right(file: &[u8], at: usize) -> bool
     requires { ⌜ at + 15 ≤ length (now file) ⌝ }
     ensures { λ r. ⌜ (r ≡ true → someIn (wrong false (drop at (now (file .entry)))) 0 15 ≡ false) ⌝ }
 {
+    let mut right = true;
     let mut place: usize = 0;
     while place < SERIES_FIELD {
         let byte = file[at + place];
-        if byte < LEAST[place] || GREATEST[place] < byte {
-            return false;
-        }
+        right = right & (LEAST[place] <= byte) & (byte <= GREATEST[place]);
         place += 1;
     }
-    true
+    right
 }
 
 // The first wrong place of a field behind the day's. A usual file has none, which the table shows sooner.
