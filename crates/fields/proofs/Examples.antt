@@ -57,6 +57,16 @@ table =
     ∷ (1 ∷ 2 ∷ 0 ∷ 255 ∷ [], faulty 4)
     ∷ (1 ∷ 2 ∷ 0 ∷ 255 ∷ 255 ∷ [], faulty 3)
     ∷ (1 ∷ 2 ∷ 0 ∷ 0 ∷ 0 ∷ 2 ∷ 12 ∷ 0 ∷ 79 ∷ 88 ∷ [], faulty 9)
+    -- a series first; a day of three bytes; a second day; a tag that is not known
+    ∷ (series call 1, faulty 0)
+    ∷ (1 ∷ 3 ∷ 0 ∷ 106 ∷ 37 ∷ [], faulty 1)
+    ∷ (day ++ day, faulty 5)
+    ∷ (day ++ (3 ∷ 12 ∷ 0 ∷ (call ++ (1 ∷ []))), faulty 5)
+    -- length 13; length 268; the letter Y; a letter for the year's first digit
+    ∷ (day ++ (2 ∷ 13 ∷ 0 ∷ (call ++ (1 ∷ []))), faulty 6)
+    ∷ (day ++ (2 ∷ 12 ∷ 1 ∷ (call ++ (1 ∷ []))), faulty 7)
+    ∷ (day ++ series (79 ∷ 87 ∷ 50 ∷ 48 ∷ 89 ∷ 50 ∷ 54 ∷ 50 ∷ 52 ∷ 48 ∷ 48 ∷ []) 1, faulty 12)
+    ∷ (day ++ series (79 ∷ 87 ∷ 50 ∷ 48 ∷ 76 ∷ 65 ∷ 54 ∷ 50 ∷ 52 ∷ 48 ∷ 48 ∷ []) 1, faulty 13)
     -- a name twice; names that descend
     ∷ (day ++ (series call 1 ++ series call 5), faulty 23)
     ∷ (day ++ (series put 1 ++ series call 5), faulty 23)
@@ -78,7 +88,7 @@ amiss q = let file : File = fileRead (take q two-series) in not (elem q (5 ∷ 2
 
 computed : Each table × (someIn amiss 0 35 ≡ false)
 unfolding Each amiss fileRead isFaulty placeIn wrong byteStands tagStands contentStands canStand within fieldSize contentSize firstFrom at16 seriesFrom frontField taken nameIn priceRead valueFrom elem gridOf band upBy below behind ofDay seriesField
-computed = (refl & refl & refl & refl & refl & refl & refl & refl & refl & refl & refl & refl & refl & tt, refl)
+computed = (refl & refl & refl & refl & refl & refl & refl & refl & refl & refl & refl & refl & refl & refl & refl & refl & refl & refl & refl & refl & refl & tt, refl)
 
 pub examples : Each table
 examples = computed .0

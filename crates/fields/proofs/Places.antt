@@ -16,7 +16,7 @@ use Rattle.base.proofs.SearchLaws.{none-at, none-in, first-before, first-found,
 use Rattle.dates.specs.Months.{dayCount}
 use Rattle.fields.specs.Fields.{Field}
 use Rattle.fields.specs.Reading.{contentSize, fieldSize, byteStands, wrong, frontField, taken, Rest, good, bad, behind, seriesFrom, File, dated, faulty, ofDay, fileRead}
-use Rattle.fields.specs.Places.{sizeOf, startOf, endOf, hasField, nameBefore, cannotStand, wholeField, contentFits, fieldPlace, isPlace}
+use Rattle.fields.specs.Places.{sizeOf, startOf, endOf, hasField, nameBefore, cannotStand, cleanField, contentFits, fieldPlace, isPlace}
 use Rattle.fields.proofs.Shape.{right}
 use Rattle.fields.proofs.Steps.{step-wrong, step-unfit, step-taken, none-good, file-wrong, file-late, file-series}
 
@@ -54,7 +54,7 @@ module _ (bs : List ℕ) where
   -- ---- the sort of a place
   by-sort : {X : Type 0} (k q : ℕ) → fieldPlace bs k q ≡ true
       → (cannotStand bs k q ≡ true → X)
-      → (q ≡ startOf bs k + 3 → wholeField bs k ≡ true → contentFits bs k ≡ false → X)
+      → (q ≡ startOf bs k + 3 → cleanField bs k ≡ true → contentFits bs k ≡ false → X)
       → (q ≡ length bs → length bs < endOf bs k → X)
       → X
   unfolding fieldPlace
@@ -63,9 +63,9 @@ module _ (bs : List ℕ) where
       let end : Bool = eqb q (length bs) in
       or-e (cannotStand bs k q) _ (and-r (hasField bs k) _ e)
       f
-      (λ o. or-e (content && (wholeField bs k && not (contentFits bs k))) _ o
+      (λ o. or-e (content && (cleanField bs k && not (contentFits bs k))) _ o
       (λ u. let v = and-r content _ u in
-      g (eqb-true q (startOf bs k + 3) (and-l content _ u)) (and-l (wholeField bs k) _ v) (not-true (contentFits bs k) (and-r (wholeField bs k) _ v)))
+      g (eqb-true q (startOf bs k + 3) (and-l content _ u)) (and-l (cleanField bs k) _ v) (not-true (contentFits bs k) (and-r (cleanField bs k) _ v)))
       (λ c. h (eqb-true q (length bs) (and-l end _ c)) (ltb-true (length bs) (endOf bs k) (and-r end _ c))))
 
   place-has : (k q : ℕ) → fieldPlace bs k q ≡ true → hasField bs k ≡ true
@@ -122,7 +122,7 @@ module _ (bs : List ℕ) where
         (and-i (lt-ltb (start + j) (length bs) (omega (arith, room)))
         (rw (kind, z, ← tag-at, ← getD-drop start bs j 0) o))))
 
-    -- ---- without a wrong place: the field is whole
+    -- ---- without a wrong place: the field is clean
     module _ (none : someIn amiss 0 n ≡ false) where
       within-bytes : endOf bs k ≤ length bs
       within-bytes =
@@ -135,9 +135,9 @@ module _ (bs : List ℕ) where
           (λ e. let w = stands-amiss q e in clash (amiss (q - start)) (w .2) (none-at amiss n none (q - start) (omega (arith, w .0, w .1, sized))))
           (λ e. e)
 
-      is-whole : wholeField bs k ≡ true
-      unfolding wholeField
-      is-whole = and-i (le-leb (endOf bs k) (length bs) within-bytes) (rw (none-in (cannotStand bs k) (endOf bs k) (λ q h. all-stand q)) refl)
+      is-clean : cleanField bs k ≡ true
+      unfolding cleanField
+      is-clean = and-i (le-leb (endOf bs k) (length bs) within-bytes) (rw (none-in (cannotStand bs k) (endOf bs k) (λ q h. all-stand q)) refl)
 
       -- so it has a place only where it does not fit, and that is its first content byte
       only-unfit : (q : ℕ) → fieldPlace bs k q ≡ true → (q ≡ start + 3) × (contentFits bs k ≡ false)
@@ -153,7 +153,7 @@ module _ (bs : List ℕ) where
       unfit-place : hasField bs k ≡ true → contentFits bs k ≡ false → fieldPlace bs k (start + 3) ≡ true
       unfolding fieldPlace
       unfit-place has u =
-          and-i has (or-r (cannotStand bs k (start + 3)) _ (or-l _ _ (and-i (eq-eqb (start + 3) (start + 3) refl) (and-i is-whole (rw u refl)))))
+          and-i has (or-r (cannotStand bs k (start + 3)) _ (or-l _ _ (and-i (eq-eqb (start + 3) (start + 3) refl) (and-i is-clean (rw u refl)))))
 
     -- ---- with one: the first is the lowest of the field's places
     module _ (has : hasField bs k ≡ true) (some : someIn amiss 0 n ≡ true) where
@@ -169,10 +169,10 @@ module _ (bs : List ℕ) where
           (λ h. h)
           (λ h. absurd (omega (arith, right first (rest k) (length (rest k)) (first-before amiss 0 n (length (rest k)) (omega arith) h) .0)))
 
-      not-whole : wholeField bs k ≡ false
-      unfolding wholeField
-      not-whole =
-          byBool (wholeField bs k)
+      not-clean : cleanField bs k ≡ false
+      unfolding cleanField
+      not-clean =
+          byBool (cleanField bs k)
           (λ e. let l = leb-true (endOf bs k) (length bs) (and-l _ _ e) in
           let stuck = amiss-stands low low-inside (omega (arith, room, sized, low-inside)) (first-found amiss 0 n low-inside) in
           clash (someIn (cannotStand bs k) 0 (endOf bs k)) (some-at (cannotStand bs k) 0 (endOf bs k) (start + low) (omega arith) (omega (arith, sized, low-inside)) stuck) (not-true _ (and-r (leb (endOf bs k) (length bs)) _ e)))
@@ -185,7 +185,7 @@ module _ (bs : List ℕ) where
           (byLe (length (rest k)) low
           (λ h. let e : start + low ≡ length bs = omega (arith, low-room, room, has-start k has) in
           or-r (cannotStand bs k (start + low)) _
-          (or-r (eqb (start + low) (start + 3) && (wholeField bs k && not (contentFits bs k))) _
+          (or-r (eqb (start + low) (start + 3) && (cleanField bs k && not (contentFits bs k))) _
           (and-i (eq-eqb (start + low) (length bs) e) (lt-ltb (length bs) (endOf bs k) (omega (arith, sized, low-inside))))))
           (λ h. or-l _ _ (amiss-stands low low-inside h (first-found amiss 0 n low-inside))))
 
@@ -196,7 +196,7 @@ module _ (bs : List ℕ) where
           byLe low (q - start)
           (λ h. omega (arith, w .0))
           (λ h. clash (amiss (q - start)) (w .2) (first-before amiss 0 n (q - start) (omega arith) h)))
-          (λ p s u. clash (wholeField bs k) s not-whole)
+          (λ p s u. clash (cleanField bs k) s not-clean)
           (λ p l. omega (arith, low-room, room, has-start k has))
 
   -- ---- along the fields: what is told is the lowest place of all
@@ -345,7 +345,7 @@ module _ (bs : List ℕ) where
   counted (suc k) = omega (arith, counted k, three k)
 
   place-within : (k q : ℕ) → fieldPlace bs k q ≡ true → q ≤ length bs
-  unfolding cannotStand wholeField
+  unfolding cannotStand cleanField
   place-within k q e =
       by-sort k q e
       (λ c. let l = ltb-true q (length bs) (and-l (ltb q (length bs)) _ (and-r (ltb q (endOf bs k)) _ (and-r (leb (startOf bs k) q) _ c))) in omega arith)
@@ -380,8 +380,6 @@ place-lowest bs p e =
     ∙ first-hit (isPlace bs) p (suc (length bs)) (omega arith) (is-place bs (told .0 .0) p (told .0 .1))
 
 -- bytes that are a file have none
-pub place-none : (bs : List ℕ) (day : ℕ) (fs : List Field) → fileRead bs ≡ dated day fs → someIn (isPlace bs) 0 (suc (length bs)) ≡ false
+pub place-none : (bs : List ℕ) (day : ℕ) (fs : List Field) → fileRead bs ≡ dated day fs → (q : ℕ) → isPlace bs q ≡ false
 unfolding JudgedFile
-place-none bs day fs e =
-    let none : None bs = rw e at (judged bs) in
-    none-in (isPlace bs) (suc (length bs)) (λ q h. no-place bs q (λ k. none k q))
+place-none bs day fs e q = let none : None bs = rw e at (judged bs) in no-place bs q (λ k. none k q)

@@ -47,8 +47,8 @@ cannotStand bs k q =
     && not (byteStands (eqb k 0) (getD bs (startOf bs k) 0) (q - startOf bs k) (getD bs q 0))))
 
 -- a whole field without such a byte
-unfoldable pub wholeField : List ℕ → ℕ → Bool
-wholeField bs k = leb (endOf bs k) (length bs) && not (someIn (cannotStand bs k) 0 (endOf bs k))
+unfoldable pub cleanField : List ℕ → ℕ → Bool
+cleanField bs k = leb (endOf bs k) (length bs) && not (someIn (cannotStand bs k) 0 (endOf bs k))
 
 -- its day is up to 36,524, or its price on grid N and its name above the one before
 unfoldable pub contentFits : List ℕ → ℕ → Bool
@@ -58,7 +58,7 @@ unfoldable pub fieldPlace : List ℕ → ℕ → ℕ → Bool
 fieldPlace bs k q =
     hasField bs k
     && (cannotStand bs k q
-    || ((eqb q (startOf bs k + 3) && (wholeField bs k && not (contentFits bs k)))
+    || ((eqb q (startOf bs k + 3) && (cleanField bs k && not (contentFits bs k)))
     || (eqb q (length bs) && ltb (length bs) (endOf bs k))))
 
 -- a place of any of the fields; there are no more of them than bytes, but for the day's

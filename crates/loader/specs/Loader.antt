@@ -19,7 +19,7 @@ use Rattle.fields.specs.Fields.{Field, seriesField, fileOf}
 use Rattle.fields.specs.Arranged.{arranged}
 use Rattle.loader.specs.declared.Written.{Written}
 
--- the rows whose first day is a day
+-- the rows whose first day is a given one
 unfoldable pub newRows : ℕ → List Row → List Row
 newRows day [] = []
 newRows day (r ∷ rs) = cond (eqb (r .entry .first) day) (r ∷ newRows day rs) (newRows day rs)

@@ -1,7 +1,7 @@
 -- What the check tells: a place of a field, the day, and one series more.
 -- Assumes nothing.
 use mathlib.Core.Path.{_≡_, refl, sym, ap, _∙_}
-use mathlib.Core.Bool.{Bool, true, false, not, _&&_}
+use mathlib.Core.Bool.{Bool, true, false, cond, not, _&&_, _||_}
 use mathlib.Core.List.{List, [], _∷_}
 use Prim.Native.Nat.{ℕ, suc, _+_, _-_, _*_, _%_, _≤_, _<_}
 use native.Mathlib.Nat.{add-zero, zero-add}
@@ -9,16 +9,16 @@ use native.Mathlib.Omega.{arith}
 use lib.Dec.{T, ltb, leb}
 use lib.ListN.{length, getD, take, drop, length-drop, drop-of-length-le}
 use lib.Seq.{getD-drop, drop-drop, take-take}
-use borrow.Author.Tests.{lt-ltb, le-ltb, le-leb, ltb-true, leb-true, not-false}
+use borrow.Author.Count.{below-more}
+use borrow.Author.Tests.{lt-ltb, le-ltb, le-leb, ltb-true, leb-true, eqb-true, not-false}
 use Rattle.base.specs.Search.{firstFrom, firstIn, someIn}
 use Rattle.base.specs.Lists.{elem, within}
 use Rattle.base.specs.Causes.{cause}
 use Rattle.base.specs.Words.{at16}
 use Rattle.base.specs.declared.Tier.the-variants.{N}
-use Rattle.base.proofs.Tests.{byBool, iff, and-r}
+use Rattle.base.proofs.Tests.{byBool, clash, iff, and-r, or-none}
 use Rattle.base.proofs.Table.{every, at as entry}
-use Rattle.base.proofs.SearchLaws.{none-at, none-in}
-use Rattle.base.proofs.ListLaws.{within-l, within-r}
+use Rattle.base.proofs.SearchLaws.{none-at, none-in, some-split, some-first, some-empty}
 use Rattle.dates.specs.Months.{dayCount}
 use Rattle.grid.specs.Grid.{gridOf}
 use Rattle.names.specs.Names.{nameLength, canStand}
@@ -26,7 +26,7 @@ use Rattle.names.proofs.RefusalLaws.{Formed}
 use Rattle.fields.specs.Fields.{Field, nameIn, below}
 use Rattle.fields.specs.Reading.{tagStands, contentSize, fieldSize, contentStands, byteStands, wrong, frontField, taken, Rest, good, bad, behind, seriesFrom, faulty, ofDay, fileRead, isFaulty, placeIn, dayIn, seriesIn, checkedOf}
 use Rattle.fields.specs.declared.Contents.{Contents}
-use Rattle.fields.proofs.Shape.{right-back, Shaped, front-room, front-shaped, series-tag, named}
+use Rattle.fields.proofs.Shape.{Shaped, front-room, front-shaped, series-tag, named}
 use Rattle.fields.proofs.Steps.{step-wrong, step-unfit, step-taken, none-good, file-wrong, file-late, file-series, day-room}
 use Rattle.parsing.specs.Keys.{keyOf}
 use Rattle.parsing.proofs.KeyLaws.{key-bound, key-price, below-key}
@@ -43,40 +43,82 @@ module _ (first : Bool) (file : List ℕ) (at j : ℕ) where
       rw (lt-ltb j (length (drop at file)) (simp length-drop h), getD-drop at file 0 0, add-zero at, getD-drop at file j 0)
 
 -- ---- a series' field by a table: the least and the greatest byte that can stand at each place
-abbrev pub least : List ℕ
+abbrev least : List ℕ
 least = 2 ∷ 12 ∷ 0 ∷ 79 ∷ 87 ∷ 50 ∷ 48 ∷ 65 ∷ 48 ∷ 48 ∷ 48 ∷ 48 ∷ 48 ∷ 48 ∷ 1 ∷ []
 
-abbrev pub greatest : List ℕ
+abbrev greatest : List ℕ
 greatest = 2 ∷ 12 ∷ 0 ∷ 79 ∷ 87 ∷ 50 ∷ 48 ∷ 88 ∷ 57 ∷ 57 ∷ 57 ∷ 57 ∷ 57 ∷ 57 ∷ 5 ∷ []
 
 abbrev between : ℕ → ℕ → Bool
 between j b = within (getD least j 0) (getD greatest j 0) b
 
--- at no place does a byte lie between them that cannot stand there
+-- a byte that lies between them and cannot stand there, or one that can and does not
 abbrev astray : ℕ → ℕ → Bool
-astray j b = between j b && not (byteStands false 2 j b)
+astray j b = cond (between j b) (not (byteStands false 2 j b)) (byteStands false 2 j b)
 
 none-astray : T (every (λ j low. not (someIn (astray j) 0 256)) 0 least)
 unfolding firstFrom within byteStands tagStands contentSize contentStands canStand
 none-astray = tt
 
-between-stands : (j b : ℕ) → j < 15 → b < 256 → between j b ≡ true → byteStands false 2 j b ≡ true
-between-stands j b h l w =
+between-is : (j b : ℕ) → j < 15 → b < 256 → between j b ≡ byteStands false 2 j b
+between-is j b h l =
     let t : T (not (someIn (astray j) 0 256)) = entry (λ j low. not (someIn (astray j) 0 256)) least none-astray j h in
     byBool (someIn (astray j) 0 256)
     (λ e. absurd (rw e at t))
-    (λ e. let n : astray j b ≡ false = none-at (astray j) 256 e b l in not-false (byteStands false 2 j b) (rw w at n))
+    (λ e. let n : astray j b ≡ false = none-at (astray j) 256 e b l in
+    byBool (between j b)
+    (λ w. w ∙ sym (not-false (byteStands false 2 j b) (rw w at n)))
+    (λ w. w ∙ sym (rw w at n)))
 
--- the first n bytes of the field at `at` lie between them
-abbrev pub Between : List ℕ → ℕ → ℕ → Type 0
-Between file at n = (j : ℕ) → j < n → (getD file (at + j) 0 < 256) × (between j (getD file (at + j) 0) ≡ true)
+-- the byte at place j of the field at `at` lies outside them
+abbrev outside : List ℕ → ℕ → ℕ → Bool
+outside file at j = not (between j (getD file (at + j) 0))
 
-pub between-right : (file : List ℕ) (at : ℕ) → at + 15 ≤ length file → Between file at 15 → someIn (wrong false (drop at file)) 0 15 ≡ false
-between-right file at inside h =
-    let first = h 0 (omega arith) .1 in
-    let tag : getD file (at + 0) 0 ≡ 2 = omega (arith, within-l 2 2 _ first, within-r 2 2 _ first) in
-    none-in (wrong false (drop at file)) 15
-    (λ j l. right-back false (drop at file) j (simp length-drop (omega arith)) (rw (getD-drop at file 0 0, tag, getD-drop at file j 0) (between-stands j (getD file (at + j) 0) l (h j l .0) (h j l .1))))
+-- the first n bytes of the field were tested
+abbrev pub Tested : List ℕ → ℕ → ℕ → Bool → Type 0
+Tested file at n right = ((j : ℕ) → j < n → getD file (at + j) 0 < 256) × (right ≡ not (someIn (outside file at) 0 n))
+
+pub tested-none : (file : List ℕ) (at : ℕ) → Tested file at 0 true
+tested-none file at = (λ j h. absurd (omega arith), rw (some-empty (outside file at) 0 0 (omega arith)) refl)
+
+one-more : (right some low high : Bool) → right ≡ not some → ((right && low) && high) ≡ not (not (low && high) || some)
+one-more right false true true e = rw e refl
+one-more right false true false e = rw e refl
+one-more right false false high e = rw e refl
+one-more right true true true e = rw e refl
+one-more right true true false e = rw e refl
+one-more right true false high e = rw e refl
+
+pub tested-more : (file : List ℕ) (at n : ℕ) (right : Bool) → Tested file at n right → getD file (at + n) 0 < 256
+    → Tested file at (n + 1) ((right && leb (getD least n 0) (getD file (at + n) 0)) && leb (getD file (at + n) 0) (getD greatest n 0))
+unfolding within
+tested-more file at n right t b =
+    let p = outside file at in
+    let last : someIn p 0 (n + 1) ≡ (p n || someIn p 0 n) =
+    some-split p 0 n (n + 1) (omega arith) (omega arith)
+    ∙ ap (λ (x : Bool). x || someIn p 0 n) (some-first p n (n + 1) (omega arith) ∙ sym (or-none (p n) _ (some-empty p (n + 1) (n + 1) (omega arith)))) in
+    (below-more _ _ (t .0) b, one-more right (someIn p 0 n) _ _ (t .1) ∙ ap not (sym last))
+
+-- all fifteen: the table says no exactly where some place is wrong
+pub tested-all : (file : List ℕ) (at : ℕ) (right : Bool) → at + 15 ≤ length file → Tested file at 15 right → right ≡ not (someIn (wrong false (drop at file)) 0 15)
+unfolding tagStands byteStands
+tested-all file at right inside t =
+    let w = wrong false (drop at file) in
+    let p = outside file at in
+    let room : (j : ℕ) → j < 15 → j < length file - at = λ j h. omega arith in
+    t .1 ∙ ap not (iff (someIn p 0 15) (someIn w 0 15)
+    (λ s. byBool (someIn w 0 15)
+    (λ e. e)
+    (λ e. let stands : (j : ℕ) → j < 15 → byteStands false (getD file at 0) j (getD file (at + j) 0) ≡ true =
+    λ j h. not-false _ (sym (wrong-at false file at j (room j h)) ∙ none-at w 15 e j h) in
+    let tag : getD file at 0 ≡ 2 = eqb-true (getD file at 0) 2 (rw (add-zero at) at (stands 0 (omega arith))) in
+    clash (someIn p 0 15) s (none-in p 15 (λ j h. ap not (between-is j _ h (t .0 j h) ∙ (rw tag at (stands j h)))))))
+    (λ s. byBool (someIn p 0 15)
+    (λ e. e)
+    (λ e. let stands : (j : ℕ) → j < 15 → byteStands false 2 j (getD file (at + j) 0) ≡ true =
+    λ j h. sym (between-is j _ h (t .0 j h)) ∙ not-false _ (none-at p 15 e j h) in
+    let tag : getD file at 0 ≡ 2 = eqb-true (getD file at 0) 2 (rw (add-zero at) at (stands 0 (omega arith))) in
+    clash (someIn w 0 15) s (none-in w 15 (λ j h. wrong-at false file at j (room j h) ∙ rw (tag, stands j h) refl)))))
 
 -- ---- what is told: a fault, or the day and so many series before those that are left
 abbrev pub faultAt : ℕ → Contents

@@ -12,7 +12,7 @@ use fields::SERIES_FIELD;
 use fields::SERIES_LENGTH;
 use fields::SERIES_TAG;
 ghost use mathlib.Core.Path.{_≡_};
-ghost use mathlib.Core.Bool.{true, false, _&&_};
+ghost use mathlib.Core.Bool.{true, false, not, _&&_};
 ghost use mathlib.Core.List.{_++_};
 ghost use Prim.Native.Nat.{_+_, _*_, _%_, _≤_, _<_};
 ghost use lib.Dec.{leb};
@@ -99,7 +99,7 @@ const GREATEST: [u8; 15] = *b"\x02\x0c\x00OW20X999999\x05";
 // Whether the bytes at `at` are a series' field in which no place is wrong.
 fn is_right(file: &[u8], at: usize) -> bool
     requires { ⌜ at + 15 ≤ length (now file) ⌝ }
-    ensures { λ r. ⌜ (r ≡ true → someIn (wrong false (drop at (now (file .entry)))) 0 15 ≡ false) ⌝ }
+    ensures { λ r. ⌜ r ≡ not (someIn (wrong false (drop at (now (file .entry)))) 0 15) ⌝ }
 {
     let mut right = true;
     let mut place: usize = 0;
