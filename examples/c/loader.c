@@ -60,6 +60,10 @@ int main(int argument_count, char **arguments)
         perror(path);
         return 2;
     }
+    if (length > SINDHOPUL_MOST_FILE_BYTES) {
+        fprintf(stderr, "%s is longer than any file of a register\n", path);
+        return 2;
+    }
     today = sindhopul_file_read(file, length, series, sizeof series);
     if (today.number != SINDHOPUL_ACCEPTED) {
         /* With cause 31 the place stands where the day would. */
