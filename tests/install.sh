@@ -49,13 +49,15 @@ loads() {
         exit 1
     fi
 }
-# Day 9817 and two series, then the same without the last byte.
+# Day 9817 and two series, the same without the last byte, and a byte more than any file of a register has.
 printf '\001\002\000\131\046\002\014\000OW20L262850\004\002\014\000OW20X262850\004' >"$folder/series"
 head -c 34 "$folder/series" >"$folder/cut"
+head -c 41736 /dev/zero >"$folder/long"
 for example in loader_c loader_static; do
     loads 0 'OW20X262850: new today, day 9817, origin 4, an announcement' "$example" "$folder/series" OW20X262850
     loads 1 'OW20L262400: not new today, day 9817' "$example" "$folder/series" OW20L262400
     loads 2 "$folder/cut refused, cause 31, place 34" "$example" "$folder/cut" OW20L262850
+    loads 2 "$folder/long is longer than any file of a register" "$example" "$folder/long" OW20L262850
 done
 
 # The shared object has what the header declares, and is what the linked examples look for.
