@@ -54,6 +54,7 @@ cleanField bs k = leb (endOf bs k) (length bs) && not (someIn (cannotStand bs k)
 unfoldable pub contentFits : List ℕ → ℕ → Bool
 contentFits bs k = cond (eqb k 0) (leb (at16 bs 3) 36524) (taken (nameBefore bs k) (frontField (drop (startOf bs k) bs)))
 
+-- place q is one of these, of the k-th field
 unfoldable pub fieldPlace : List ℕ → ℕ → ℕ → Bool
 fieldPlace bs k q =
     hasField bs k

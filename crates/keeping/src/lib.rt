@@ -74,7 +74,7 @@ fn is_journal(path: &[u8], text: &[u8], calendar: &[u8], found: Found, begins: b
 }
 
 // The last call of the journal, that of a line, is not the register's.
-pub fn complain_ahead(path: &[u8], line: &[u8]) {
+fn complain_ahead(path: &[u8], line: &[u8]) {
     let mut calendar_name = io::buffer();
     let c = commands::word(2, &mut calendar_name);
     let mut register_name = io::buffer();
