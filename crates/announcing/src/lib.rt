@@ -1,4 +1,6 @@
 // Announce on the register's bytes.
+#![tactic(auto)]
+
 ghost use Rattle.std.specs.Prelude.{◌≡◌, true, ◌++◌, ◌≤◌, length, drop};
 ghost use Rattle.calendar.specs.Calendar.{Passes};
 ghost use Rattle.calendar.specs.Live.{live_months};

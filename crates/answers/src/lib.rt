@@ -1,5 +1,7 @@
 // Commands that ask a register, a calendar or a name and answer: check, rows, show, picture, name, why; and the calendar made
 // from its list.
+#![tactic(auto)]
+
 use base::causes;
 use commands::{PICTURE, ROWS, SHOW};
 use dates::DAYS;

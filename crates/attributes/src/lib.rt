@@ -1,4 +1,6 @@
 // What the system knows of a file by its name: its attributes, links followed, and where a link leads.
+#![tactic(auto)]
+
 mod age;
 
 ghost use Rattle.libc.specs.Io.{Ended};

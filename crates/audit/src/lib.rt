@@ -1,4 +1,6 @@
 // Holding a register against what its journal gives.
+#![tactic(auto)]
+
 use layout::MOST_ROWS;
 use phrases::fill;
 

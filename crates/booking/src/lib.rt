@@ -1,5 +1,7 @@
 // start, session, announce and preview: the register's calls over files. A call is a kind and its pairs, as in a journal: day and
 // close, or month and price. `beside` names the new register, `file_beside` the new file of series, empty where none is asked for.
+#![tactic(auto)]
+
 use base::causes;
 use calls::{ANNOUNCE, Answer, Called, SESSION, START};
 use commands::{JOURNAL, WITH_FILE, YES};

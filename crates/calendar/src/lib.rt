@@ -1,4 +1,6 @@
 // The session calendar: its sessions, expiry dates, and the live months.
+#![tactic(auto)]
+
 ghost use Rattle.std.specs.Prelude.{◌≡◌, ◌<◌, ◌≤◌};
 ghost use Rattle.dates.specs.Months.{month_count, day_count};
 ghost use Rattle.calendar.specs.Calendar.{session, Passes, expiry_of, next_session};

@@ -1,4 +1,6 @@
 // Each call by its kind and its pairs of numbers, for journals and the console.
+#![tactic(auto)]
+
 ghost use Rattle.std.specs.Prelude.{◌≡◌};
 ghost use Rattle.rules.specs.Rulebook.{rules};
 ghost use Rattle.calls.specs.Calls.{call_of, is_call};

@@ -1,5 +1,7 @@
 // What calls are and what they answer. The definitions of specs/ say what each call returns and leaves; the code of the calls
 // stands in crates of its own.
+#![tactic(auto)]
+
 
 // The kinds of calls, as a journal has them.
 pub const START: u8 = 0;

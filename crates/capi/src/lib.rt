@@ -1,4 +1,6 @@
 // The C interface: exports alone, each a total function over plain slices and numbers. include/sindhopul.h declares them.
+#![tactic(auto)]
+
 ghost use Rattle.std.specs.Prelude.{◌≡◌};
 ghost use Rattle.calendar.specs.Calendar.{check_of};
 ghost use Rattle.names.specs.Names.{write_cause, written, read_of};

@@ -1,6 +1,8 @@
 // The commands of the program: one table of them, and the words that the program was started with, taken apart by it.
 //
 // Words are counted without options: 0 is the program, 1 the command, 2 the first word behind it.
+#![tactic(auto)]
+
 mod near;
 mod options;
 mod table;

@@ -1,4 +1,6 @@
 // The console program as a library: `run` does what the program's arguments ask and answers its exit status.
+#![tactic(auto)]
+
 use commands::{
     ANNOUNCE, AUDIT, CALENDAR, CHECK, FILE, NAME, PREVIEW, REPLAY, SERIES, SESSION, START, UNDO,
 };

@@ -1,4 +1,6 @@
 // Days and months: first days, third Fridays, and the month of a day.
+#![tactic(auto)]
+
 ghost use Rattle.std.specs.Prelude.{◌≡◌, ◌<◌, ◌≤◌};
 ghost use Rattle.dates.specs.Months.{month_count, day_count, first_day, third_friday, month_of, ThirdFridays};
 

@@ -3,6 +3,8 @@
 // A file is replaced by a new one beside it: made, dressed as the old one, written, brought to the disk, renamed over the old
 // one, and the folder brought to the disk. The new file is made before the old one is read, and its name can be taken by one
 // run alone, so it is also the lock of one run against another.
+#![tactic(auto)]
+
 mod journals;
 mod loading;
 mod paths;

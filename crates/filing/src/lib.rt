@@ -1,4 +1,6 @@
 // The file of a register's new series, for the loader: written by itself, or together with the call that lists them, and read.
+#![tactic(auto)]
+
 mod together;
 
 use files::{Installed, Loaded};

@@ -1,4 +1,6 @@
 // The strike grids: prices on a grid, the nearest price to a close, and what a close requires.
+#![tactic(auto)]
+
 ghost use Rattle.std.specs.Prelude.{◌≡◌, ◌*◌, ◌≤◌};
 ghost use Rattle.base.specs.Lists.{elem};
 ghost use Rattle.grid.specs.Grid.{grid_of, required_low, required_high, lowest_close, highest_close, close_taken};
@@ -26,6 +28,7 @@ pub struct Strikes {
     pub high: u16,
 }
 
+#[tactic(auto, unfolding(crate::specs::Numbers::stride))]
 pub fn stride_of(tier: Tier) -> u16
     ensures { result ≡ stride tier }
 {

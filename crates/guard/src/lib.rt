@@ -1,5 +1,7 @@
 // Looked at before a command is carried out, by the table of commands: each file that is there is of the kind that is wanted,
 // and none that is written is also another one of the command's files. So no slip costs a file.
+#![tactic(auto)]
+
 mod kinds;
 mod slots;
 

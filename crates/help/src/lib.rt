@@ -1,4 +1,6 @@
 // What the program says of itself: one text a command, behind its usage lines from the table of commands.
+#![tactic(auto)]
+
 use commands::{
     ANNOUNCE, AUDIT, CALENDAR, CHECK, FILE, NAME, PICTURE, PREVIEW, REPLAY, ROWS, SERIES, SESSION,
     SHOW, START, UNDO, WHY,

@@ -1,4 +1,6 @@
 // A calendar's bytes from a list of weekdays without session and of extra sessions, as the exchange publishes them.
+#![tactic(auto)]
+
 ghost use Rattle.std.specs.Prelude.{◌≡◌, ◌&&◌, ℕ, ◌%◌, ◌^◌, ltb, length, replicate};
 ghost use Rattle.dates.specs.Months.{day_count};
 ghost use Rattle.calendar.specs.Calendar.{calendar_length, session};

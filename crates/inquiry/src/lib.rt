@@ -1,4 +1,6 @@
 // Why a series is listed, or is not, and what would bring it in: answered from a calendar and a register that was accepted.
+#![tactic(auto)]
+
 mod case;
 mod months;
 mod next;

@@ -6,6 +6,8 @@
 //     session 2026-11-19 2420.10 = 19
 //
 // A call, its pairs of arguments, `=`, the number that it gave, and the values beside it. Each call has one pair.
+#![tactic(auto)]
+
 mod ending;
 mod input;
 mod output;

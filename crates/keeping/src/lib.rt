@@ -1,5 +1,7 @@
 // Register and journal belong together: whether a file is the journal of a register, whole and true, and how the register
 // stands to it. What is not as it should be is told, with the way on. A call is kept in a journal that is in step.
+#![tactic(auto)]
+
 mod recording;
 
 use commands::WITH_FILE;

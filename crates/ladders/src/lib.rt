@@ -1,4 +1,6 @@
 // The ladders of a start or a session, written row by row.
+#![tactic(auto)]
+
 ghost use Rattle.std.specs.Prelude.{◌≡◌, ◌++◌, ◌+◌, ◌*◌, ◌≤◌, ◌<◌, length, take, drop, get_or};
 ghost use Rattle.base.specs.Lists.{within};
 ghost use Rattle.dates.specs.Months.{month_count};

@@ -1,5 +1,7 @@
 // The register's bytes: where its parts stand and how long they are. The definitions of specs/ are the register itself: rows, a
 // running register, its bytes written and read, when it is well formed.
+#![tactic(auto)]
+
 ghost use Rattle.std.specs.Prelude.{◌≡◌, length, replicate};
 ghost use Rattle.layout.specs.Bytes.{all_zero};
 

@@ -1,4 +1,6 @@
 // Start and session on the register's bytes.
+#![tactic(auto)]
+
 ghost use Rattle.std.specs.Prelude.{◌≡◌, ◌<◌, length};
 ghost use Rattle.dates.specs.Months.{day_count};
 ghost use Rattle.calendar.specs.Calendar.{Passes};

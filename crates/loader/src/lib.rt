@@ -1,4 +1,6 @@
 // The file of a register's new series, written.
+#![tactic(auto)]
+
 ghost use Rattle.std.specs.Prelude.{◌≡◌};
 ghost use Rattle.rules.specs.Rulebook.{rules};
 ghost use Rattle.loader.specs.Loader.{file_at, file_after};

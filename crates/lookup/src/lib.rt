@@ -1,5 +1,7 @@
 // Single questions about days, months, a calendar and the grids: total functions over any bytes and any 32-bit numbers.
 // The console asks them, and the host tests compare every or_outside with another implementation.
+#![tactic(auto)]
+
 ghost use Rattle.std.specs.Prelude.{◌≡◌, ◌&&◌, eqb, leb, ltb, get_or};
 ghost use Rattle.base.specs.Lists.{elem};
 ghost use Rattle.dates.specs.Months.{month_count, day_count, first_day, third_friday, month_of};

@@ -1,4 +1,6 @@
 // A register and its journal: the journal's calls run line by line, and the way on where the two have parted.
+#![tactic(auto)]
+
 mod cause;
 mod otherwise;
 mod running;

@@ -1,4 +1,6 @@
 // Series names: the 11 bytes of a series, written and read.
+#![tactic(auto)]
+
 ghost use Rattle.std.specs.Prelude.{◌≡◌, true, [], ◌∷◌, ◌≤◌, length};
 ghost use Rattle.base.specs.Search.{first_in};
 ghost use Rattle.base.specs.Lists.{within};

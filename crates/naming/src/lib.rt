@@ -1,4 +1,6 @@
 // The series of a register's new rows, named in the bytes of a file.
+#![tactic(auto)]
+
 ghost use Rattle.std.specs.Prelude.{◌≡◌, [], ◌∷◌, ◌++◌, ◌+◌, ◌-◌, ◌*◌, ◌≤◌, eqb, length, drop};
 ghost use Rattle.base.specs.Words.{at16};
 ghost use Rattle.base.specs.Search.{first_in};

@@ -1,4 +1,6 @@
 // A file of series, read.
+#![tactic(auto)]
+
 ghost use Rattle.std.specs.Prelude.{◌≡◌, true, false, not, ◌&&◌, ◌++◌, ◌+◌, ◌*◌, ◌%◌, ◌≤◌, ◌<◌, leb, length, take, drop};
 ghost use Rattle.base.specs.Search.{first_in, some_in};
 ghost use Rattle.base.specs.Lists.{elem};

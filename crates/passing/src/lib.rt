@@ -1,4 +1,6 @@
 // Whether a calendar passes: its check, causes 11 to 13.
+#![tactic(auto)]
+
 ghost use Rattle.std.specs.Prelude.{◌≡◌, ◌+◌, ◌-◌, ◌*◌, ◌/◌, ◌<◌, ◌≤◌, length};
 ghost use Rattle.base.specs.Search.{first_in, some_in};
 ghost use Rattle.base.specs.Lists.{least_of};

@@ -3,6 +3,8 @@
 // A place is % and a letter, and takes the next value: %n a number, %1 to %9 a number to the right end of a column so wide,
 // %d a day, %m a month, %c a close, %s the plural's s unless the value is 1, %t the letter of a tier, %o an origin in words,
 // %C and %P the names of the call and the put of a series, %b a byte with its sign, where it has one.
+#![tactic(auto)]
+
 use text::put;
 
 const CALL: u32 = 0;

@@ -1,5 +1,7 @@
 // The six ladders of a register as one SVG picture of 1000 by 1200 pixels: prices upwards, the live months side by side,
 // a bar for each row in the colour of its origin.
+#![tactic(auto)]
+
 mod bars;
 mod scale;
 mod shapes;

@@ -2,6 +2,8 @@
 // not have it. No other crate of the console knows where a register has what.
 //
 // `cause` alone looks whether the register stands. What is told of live months and of their rows is so where it does.
+#![tactic(auto)]
+
 ghost use Rattle.std.specs.Prelude.{◌<◌};
 
 use layout::{

@@ -1,4 +1,6 @@
 // The register that a journal gives, by the proved replay.
+#![tactic(auto)]
+
 use journal::{Calls, Reason};
 use replaying::Outcome;
 

@@ -1,4 +1,6 @@
 // The check of a register, and how every call opens.
+#![tactic(auto)]
+
 ghost use Rattle.std.specs.Prelude.{◌≡◌, [], ◌++◌, ◌+◌, ◌-◌, ◌*◌, ◌≤◌, ◌<◌, length, get_or};
 ghost use Rattle.base.specs.Lists.{elem};
 ghost use Rattle.dates.specs.Months.{month_count, day_count};

@@ -1,4 +1,6 @@
 // What a start or a session that is not refused leaves: the register's bytes, and the answer.
+#![tactic(auto)]
+
 ghost use Rattle.std.specs.Prelude.{◌≡◌, true, ◌++◌, ◌+◌, ◌-◌, ◌*◌, ◌≤◌, length, get_or, take, drop};
 ghost use Rattle.calendar.specs.Calendar.{next_session};
 ghost use Rattle.grid.specs.Numbers.{number_of};

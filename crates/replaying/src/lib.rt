@@ -1,4 +1,6 @@
 // A journal of calls run from an empty register: the way back to a register that was lost.
+#![tactic(auto)]
+
 ghost use Rattle.std.specs.Prelude.{◌≡◌, true, length};
 ghost use Rattle.rules.specs.Rulebook.{rules};
 ghost use Rattle.history.specs.Claim.{final_at, numbers_at};

@@ -1,4 +1,6 @@
 // What stands in a register that was accepted, or in a file of series, in words and tables. Whoever asks has opened it.
+#![tactic(auto)]
+
 mod brought;
 mod close;
 mod contents;

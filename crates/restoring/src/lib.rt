@@ -1,4 +1,6 @@
 // A journal of calls: the register made of it again, and the audit of a register against it.
+#![tactic(auto)]
+
 mod auditing;
 mod replacing;
 

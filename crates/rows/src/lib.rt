@@ -1,4 +1,6 @@
 // The rows call: a pair over the same inputs, and both in one.
+#![tactic(auto)]
+
 ghost use Rattle.std.specs.Prelude.{◌≡◌, [], ℕ, ◌+◌, ◌-◌, ◌*◌, ◌≤◌, ◌<◌, get_or};
 ghost use Rattle.calendar.specs.Live.{live_months};
 ghost use Rattle.grid.specs.Numbers.{number_of};

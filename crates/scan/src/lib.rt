@@ -1,4 +1,6 @@
 // The scan of a register's rows: ladders one behind the other.
+#![tactic(auto)]
+
 ghost use Rattle.std.specs.Prelude.{◌≡◌, [], ◌+◌, ◌-◌, ◌*◌, ◌≤◌, ◌<◌, length};
 ghost use Rattle.calendar.specs.Live.{live_months};
 ghost use Rattle.rules.specs.Rules.{last_first_month};

@@ -1,5 +1,7 @@
 // Zeros for whole files and journals. Each contract tells the length: a caller's proof that counted the zeros of an array
 // would take by their number.
+#![tactic(auto)]
+
 ghost use Rattle.std.specs.Prelude.{◌≡◌, length};
 ghost use Rattle.calendar.specs.Calendar.{calendar_length};
 ghost use Rattle.layout.specs.Bytes.{register_length};

@@ -1,4 +1,6 @@
 // The six spans of a start or a session, each the lowest and the highest price, in the order of the live months.
+#![tactic(auto)]
+
 ghost use Rattle.std.specs.Prelude.{◌≡◌, ◌≤◌, min, max, length, get_or, drop};
 ghost use Rattle.dates.specs.Months.{month_count};
 ghost use Rattle.grid.specs.Grid.{lowest_close, highest_close};

@@ -1,5 +1,7 @@
 // What the console program shares with the person at it: the arguments and the files that they name, answers and refusals,
 // exit statuses.
+#![tactic(auto)]
+
 mod arguments;
 mod streams;
 

@@ -2,6 +2,8 @@
 //
 // What is written goes into a buffer that the caller lends, behind its first `at` bytes; each function answers where the next
 // byte goes. Where the buffer is full the rest is left out, so that the answer is its length.
+#![tactic(auto)]
+
 mod read;
 mod search;
 mod styles;

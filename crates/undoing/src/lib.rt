@@ -3,6 +3,8 @@
 //
 // The register moves first. A run that is cut off then leaves a journal that is ahead of its register, and the same command
 // completes the work; the other way round the journal would lack a call that the register has.
+#![tactic(auto)]
+
 mod comments;
 
 use calls::{SESSION, START};

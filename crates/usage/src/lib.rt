@@ -1,4 +1,6 @@
 // The first words: help, the version, and bad use, told in one line with the usage of the command behind it.
+#![tactic(auto)]
+
 use commands::{COMMANDS, HELP, JOURNAL, LISTED, NO_FILE, UNKNOWN, VERSION, WITH_FILE};
 use libc::{STDERR_FILENO, STDOUT_FILENO};
 

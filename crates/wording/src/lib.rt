@@ -1,4 +1,6 @@
 // Every refusal in words: first the cause with its number, then its own values, then what to do next.
+#![tactic(auto)]
+
 mod faults;
 mod forms;
 mod opening;

@@ -1,0 +1,15 @@
+-- What the loops of `calendar::expiry` keep.
+-- Assumes nothing.
+use mathlib.Core.Path.{◌≡◌, sym, ap, ◌∙◌}
+use native.Mathlib.Omega.{arith}
+use borrow.Author.Rules.{rules}
+use Rattle.base.specs.Search.{last_up_to}
+use Rattle.base.proofs.SearchLaws.{last_end, last_hit, last_miss}
+use Rattle.calendar.specs.Calendar.{session, expiry_of}
+use Rattle.calendar.proofs.expiry.Given as goal
+
+abbrev pub invariant-loop-day : goal.invariant-loop-day
+invariant-loop-day l = expiry_of l.calendar l.month ≡ last_up_to (session l.calendar) l.day
+
+abbrev pub decreases-loop-day : goal.decreases-loop-day
+decreases-loop-day l = l.day

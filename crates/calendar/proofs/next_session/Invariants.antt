@@ -1,0 +1,17 @@
+-- What the loops of `calendar::next_session` keep.
+-- Assumes nothing.
+use mathlib.Core.Path.{◌≡◌, refl, sym, ◌∙◌}
+use Prim.Native.Nat.{◌≤◌, ◌-◌}
+use native.Mathlib.Omega.{arith}
+use borrow.Author.Rules.{rules}
+use Rattle.base.specs.Search.{first_in}
+use Rattle.base.proofs.SearchLaws.{first_end, first_hit, first_miss}
+use Rattle.dates.specs.Months.{day_count}
+use Rattle.calendar.specs.Calendar.{session, next_session}
+use Rattle.calendar.proofs.next_session.Given as goal
+
+abbrev pub invariant-loop-next : goal.invariant-loop-next
+invariant-loop-next l = (l.next ≤ day_count) × (next_session l.calendar l.day ≡ first_in (session l.calendar) l.next day_count)
+
+abbrev pub decreases-loop-next : goal.decreases-loop-next
+decreases-loop-next l = day_count - l.next
