@@ -1,0 +1,16 @@
+-- `names::pair` meets its contract: digits lie from 48 to 57.
+-- Assumes nothing.
+use native.Mathlib.Omega.{arith}
+use Rattle.base.proofs.ListLaws.{within_l, within_r}
+use Rattle.names.specs.Names.{value_from}
+use Rattle.names.proofs.pair.Goals as goal
+
+pub overflow_sub-result : goal.overflow_sub-result
+overflow_sub-result c = within_l _ _ _ c.requires.0
+
+pub overflow_sub-result-2 : goal.overflow_sub-result-2
+overflow_sub-result-2 c = within_l _ _ _ c.requires.1
+
+pub returns : goal.returns
+unfolding value_from
+returns c = (omega arith, omega (arith, within_r _ _ _ c.requires.0, within_r _ _ _ c.requires.1))
