@@ -1,8 +1,7 @@
 -- `calendar::expiry` meets its contract. The loop keeps an equation: the search from `day` down is the whole search.
 -- Assumes nothing.
-use mathlib.Core.Path.{◌≡◌, sym, ap, ◌∙◌}
+use mathlib.Core.Path.{sym, ap, ◌∙◌}
 use native.Mathlib.Omega.{arith}
-use borrow.Author.Rules.{rules}
 use Rattle.base.specs.Search.{last_up_to}
 use Rattle.base.proofs.SearchLaws.{last_end, last_hit, last_miss}
 use Rattle.calendar.specs.Calendar.{session, expiry_of}

@@ -1,10 +1,7 @@
 -- What the loops of `calendar::expiry` keep.
 -- Assumes nothing.
-use mathlib.Core.Path.{◌≡◌, sym, ap, ◌∙◌}
-use native.Mathlib.Omega.{arith}
-use borrow.Author.Rules.{rules}
+use mathlib.Core.Path.{◌≡◌}
 use Rattle.base.specs.Search.{last_up_to}
-use Rattle.base.proofs.SearchLaws.{last_end, last_hit, last_miss}
 use Rattle.calendar.specs.Calendar.{session, expiry_of}
 use Rattle.calendar.proofs.expiry.Given as goal
 

@@ -2,7 +2,6 @@
 -- Assumes nothing.
 use mathlib.Core.Path.{sym, ap, ◌∙◌}
 use native.Mathlib.Omega.{arith}
-use borrow.Author.Rules.{rules}
 use Rattle.dates.proofs.MonthLaws.{month_of-below}
 use Rattle.calendar.specs.Calendar.{expiry_of}
 use Rattle.calendar.proofs.LiveLaws.{calendar-dated, live_now, live-next}

@@ -1,13 +1,9 @@
 -- `calendar::next_session` meets its contract. The loop keeps an equation: the search from `next` on is the whole search.
 -- Assumes nothing.
-use mathlib.Core.Path.{◌≡◌, refl, sym, ◌∙◌}
-use Prim.Native.Nat.{◌≤◌, ◌-◌}
+use mathlib.Core.Path.{refl, sym, ◌∙◌}
 use native.Mathlib.Omega.{arith}
-use borrow.Author.Rules.{rules}
-use Rattle.base.specs.Search.{first_in}
 use Rattle.base.proofs.SearchLaws.{first_end, first_hit, first_miss}
-use Rattle.dates.specs.Months.{day_count}
-use Rattle.calendar.specs.Calendar.{session, next_session}
+use Rattle.calendar.specs.Calendar.{next_session}
 use Rattle.calendar.proofs.next_session.Goals as goal
 
 pub loop-next-init : goal.loop-next-init

@@ -1,11 +1,8 @@
 -- What the loops of `calendar::next_session` keep.
 -- Assumes nothing.
-use mathlib.Core.Path.{◌≡◌, refl, sym, ◌∙◌}
+use mathlib.Core.Path.{◌≡◌}
 use Prim.Native.Nat.{◌≤◌, ◌-◌}
-use native.Mathlib.Omega.{arith}
-use borrow.Author.Rules.{rules}
 use Rattle.base.specs.Search.{first_in}
-use Rattle.base.proofs.SearchLaws.{first_end, first_hit, first_miss}
 use Rattle.dates.specs.Months.{day_count}
 use Rattle.calendar.specs.Calendar.{session, next_session}
 use Rattle.calendar.proofs.next_session.Given as goal

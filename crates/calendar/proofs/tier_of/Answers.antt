@@ -2,7 +2,6 @@
 -- Assumes nothing.
 use mathlib.Core.Path.{sym}
 use native.Mathlib.Omega.{arith}
-use borrow.Author.Rules.{rules}
 use Rattle.calendar.proofs.LiveLaws.{tier_n, tier_m, tier_f}
 use Rattle.calendar.proofs.tier_of.Goals as goal
 

@@ -2,7 +2,6 @@
 -- Assumes nothing.
 use Prim.Native.Nat.{◌+◌, ◌/◌}
 use native.Mathlib.Omega.{arith}
-use borrow.Author.Rules.{rules}
 use Rattle.base.proofs.Tests.{by_le}
 use Rattle.dates.proofs.MonthLaws.{by-march}
 use Rattle.dates.proofs.first_day.Goals as goal

@@ -1,9 +1,9 @@
 -- `dates::month_of` meets its contract. The loop's invariant: the month's first day is at most the day.
 -- Assumes nothing.
 use mathlib.Core.Path.{sym}
-use Prim.Native.Nat.{◌+◌, ◌-◌, ◌*◌, ◌/◌, ◌≤◌, ◌<◌}
+use Prim.Native.Nat.{◌+◌, ◌*◌, ◌/◌, ◌<◌}
 use native.Mathlib.Omega.{arith}
-use Rattle.dates.specs.Months.{month_count, first_day}
+use Rattle.dates.specs.Months.{month_count}
 use Rattle.dates.proofs.MonthLaws.{guessed, first-day_lt, last-day, month_of_is}
 use Rattle.dates.proofs.month_of.Goals as goal
 

@@ -1,7 +1,6 @@
 -- `dates::third_friday` meets its contract: the code is the closed form of the third Friday.
 -- Assumes nothing.
 use native.Mathlib.Omega.{arith}
-use borrow.Author.Rules.{rules}
 use Rattle.dates.proofs.MonthLaws.{first-day-to, third-friday_is}
 use Rattle.dates.proofs.third_friday.Goals as goal
 

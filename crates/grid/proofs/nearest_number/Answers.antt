@@ -3,7 +3,6 @@
 use mathlib.Core.Path.{◌≡◌}
 use Prim.Native.Nat.{ℕ, ◌≤◌}
 use native.Mathlib.Omega.{arith}
-use borrow.Author.Rules.{rules}
 use Rattle.base.specs.declared.Tier.{Tier}
 use Rattle.grid.specs.Numbers.{stride}
 use Rattle.grid.proofs.Grids.{stride_pos, stride_le}

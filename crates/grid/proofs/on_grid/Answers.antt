@@ -2,7 +2,6 @@
 -- Assumes nothing.
 use mathlib.Core.Path.{sym}
 use native.Mathlib.Omega.{arith}
-use borrow.Author.Rules.{rules}
 use Rattle.grid.proofs.Grids.{stride_pos, no_number, by_number}
 use Rattle.grid.proofs.on_grid.Goals as goal
 

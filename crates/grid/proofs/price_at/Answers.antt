@@ -1,7 +1,6 @@
 -- `grid::price_at` meets its contract: in each band its sum is the price's line.
 -- Assumes nothing.
 use native.Mathlib.Omega.{arith}
-use borrow.Author.Rules.{rules}
 use Rattle.grid.proofs.Prices.{price_line}
 use Rattle.grid.proofs.price_at.Goals as goal
 

@@ -1,7 +1,6 @@
 -- `grid::required_numbers` meets its contract: the numbers 16 below and 16 above the nearest are those of what is required.
 -- Assumes nothing.
 use native.Mathlib.Omega.{arith}
-use borrow.Author.Rules.{rules}
 use Rattle.grid.proofs.Required.{required-numbers}
 use Rattle.grid.proofs.required_numbers.Goals as goal
 

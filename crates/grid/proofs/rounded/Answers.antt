@@ -2,7 +2,6 @@
 -- Assumes nothing.
 use native.Mathlib.Nat.{mod-le, div-le_self}
 use native.Mathlib.Omega.{arith}
-use borrow.Author.Rules.{rules}
 use Rattle.grid.proofs.Nearest.{round_down, round_up}
 use Rattle.grid.proofs.rounded.Goals as goal
 
