@@ -47,4 +47,4 @@ module _ (R : Rules) where
 
 -- the pointer to the byte of a slice at a place: the slice's block, and so many bytes behind its start
 abbrev pub pointer_to : Bor (List ℕ) → ℕ → ℕ × ℕ
-pointer_to bytes at = (bytes.ptr.0, bytes.ptr.1 + at)
+pointer_to bytes at = (bytes.ref_ptr.0, bytes.ref_ptr.1 + at)

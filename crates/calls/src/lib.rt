@@ -2,7 +2,6 @@
 // stands in crates of its own.
 #![tactic(auto)]
 
-
 // The kinds of calls, as a journal has them.
 pub const START: u8 = 0;
 

@@ -1,9 +1,9 @@
 -- Document 01, "The register": its 11,264 bytes, written and read. Two-byte numbers have their low byte first.
 -- Assumes nothing.
-use Rattle.std.specs.Prelude.{Bool, true, false, cond, ◌&&◌, List, [], ◌∷◌, ◌++◌, ℕ, zero, suc, ◌-◌, ◌*◌, eqb, length, get_or, drop, replicate}
+use Rattle.std.specs.Prelude.{Bool, true, false, cond, ◌&&◌, List, [], ◌∷◌, ◌++◌, ℕ, zero, suc, ◌-◌, eqb, length, get_or, drop, replicate}
 use Rattle.rules.specs.Rules.{Moment}
 use Rattle.layout.specs.Rows.{Row, row}
-use Rattle.layout.specs.Register.{most_waiting, Body, Reg, empty, running}
+use Rattle.layout.specs.Register.{Body, Reg, empty, running}
 use Rattle.base.specs.Words.{at16, two}
 
 -- its length, and how many rows may stand
