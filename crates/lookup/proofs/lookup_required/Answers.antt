@@ -1,7 +1,6 @@
 -- `lookup::lookup_required` meets its contract: a close that is taken lies within the bounds that `grid` requires.
 -- Assumes nothing.
 use mathlib.Core.Path.{sym, ◌∙◌}
-use borrow.Author.Rules.{rules}
 use borrow.Author.Tests.{le-leb, lt-leb}
 use Rattle.lookup.specs.Lookup.{required_at}
 use Rattle.lookup.proofs.LookupLaws.{close_bounds}
