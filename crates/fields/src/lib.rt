@@ -1,7 +1,6 @@
 // A file of series: what its fields are made of. The definitions of specs/ say how a file is written and what any bytes read as.
 #![tactic(auto)]
 
-
 // The tags: a day, a series.
 pub const DAY_TAG: u8 = 1;
 
