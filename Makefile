@@ -3,7 +3,7 @@
 # make program: the console program, build/sindhopul. make lib: the library, static and shared, in build/lib.
 # make install PREFIX=..: both, with header, pkg-config file and Warsaw's calendar. make compare-calendar: Warsaw's days
 # beside QuantLib's.
-.PHONY: test demo bench program lib install compare-calendar
+.PHONY: test demo bench program lib archives install compare-calendar
 
 PREFIX = /usr/local
 VERSION = 0.2.0
@@ -24,23 +24,33 @@ program: build/sindhopul
 
 lib: build/lib/libsindhopul.a build/lib/libsindhopul.so
 
-# rt proves the exporting crate anew each time, so it is asked only when something changed; a check proves two crates at a
-# time, where making the archive proves one after the other.
-target/staticlib/lib%.a: crates.txt $(shell find crates -name '*.rt' -o -name '*.antt')
-	rt check $*
-	rt staticlib $*
+archives: build/archives/libcapi.a build/archives/liblookup.a
 
-# The C functions behind the files are the kit's.
-build/sindhopul: crates/console/main.c target/staticlib/libconsole.a
+# What the archives and the program are made of.
+SOURCES = crates.txt $(shell find crates -path '*/out' -prune -o \( -name '*.rt' -o -name '*.antt' \) -print)
+
+# rt proves what it builds, so it is asked only when something changed. The lookups' archive is the tests'.
+build/archives/libcapi.a: $(SOURCES)
+	cd crates/capi && rt lib
+	@mkdir -p build/archives
+	cp crates/capi/out/libcapi.a $@
+
+build/archives/liblookup.a: $(SOURCES)
+	cd crates/lookup_c && rt lib
+	@mkdir -p build/archives
+	cp crates/lookup_c/out/liblookup_c.a $@
+
+build/sindhopul: $(SOURCES)
+	cd crates/sindhopul && rt run -- --version
 	@mkdir -p build
-	$(CC) -O2 -Wall -Wextra -o $@ $^ "$$(dirname "$$(rt doc)")/../lib/libos_c.a"
+	cp crates/sindhopul/out/sindhopul $@
 
-build/lib/libsindhopul.a: target/staticlib/libcapi.a
+build/lib/libsindhopul.a: build/archives/libcapi.a
 	@mkdir -p build/lib
 	cp $< $@
 
 # Nothing in the archive refers to its functions: without --whole-archive the shared object would be empty.
-build/lib/libsindhopul.so.1: target/staticlib/libcapi.a
+build/lib/libsindhopul.so.1: build/archives/libcapi.a
 	@mkdir -p build/lib
 	$(CC) -shared -Wl,-soname,libsindhopul.so.1 -Wl,-z,defs -Wl,-z,text \
 		-Wl,--whole-archive $< -Wl,--no-whole-archive -o $@

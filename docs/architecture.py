@@ -15,8 +15,8 @@ from textwrap import wrap
 
 ROOT = os.path.dirname(os.path.dirname(os.path.abspath(__file__)))
 PICTURE = os.path.join(ROOT, "docs", "architecture.svg")
-# The toolchain's libraries over C functions, whose contracts are assumed.
-FOREIGN = {"io", "libc", "os"}
+# The toolchain's library over C functions, whose contracts are assumed.
+FOREIGN = {"io"}
 
 # Where bands begin, chips begin and bands end; a letter of a chip, a chip's height, a row's; how far apart the arrows' lanes are.
 LEFT, CHIPS, RIGHT = 20, 262, 820
@@ -32,7 +32,7 @@ def layers_of(text):
             if (now in layers) == bool(words):
                 sys.exit(f"crates.txt: layer {now} needs its words where it is first named, and there alone")
             layers.setdefault(now, (words, []))
-        elif match := re.match(r"(\w+):([^#]*)", line):
+        elif match := re.match(r"(\w+)(?: staticlib)?:([^#]*)", line):
             if now is None:
                 sys.exit(f"crates.txt: {match[1]} stands in no layer")
             deps[match[1]] = match[2].split()

@@ -16,8 +16,8 @@ sys.path.insert(0, ROOT)
 sys.dont_write_bytecode = True
 import causes
 DEFINITION = re.compile(r"^\s*(?:unfoldable|abbrev) pub (\S+) :|^pub (?:record|data) (\S+)")
-IMPORT = re.compile(r"^(?:ghost |pub )?use Rattle·([a-z_]+)(?:·specs)?\.specs\.(\w+)(?:\.\{([^}]*)\}| as (\w+))")
-WORD = re.compile(r"[^\s(){}\[\],;`⌜⌝]+")
+IMPORT = re.compile(r"^(?:ghost |pub )?use Rattle\.([a-z_]+)\.specs\.(\w+)(?:\.\{([^}]*)\}| as (\w+))")
+WORD = re.compile(r"[^\s(){}\[\].,;`]+")
 CITED = re.compile(r"\[`([a-z_]+/specs/\w+\.antt)`: ((?:`[^`]+`(?:, )?)+)\]")
 FILE = re.compile(r"`(?:crates/)?([a-z_]+/specs/\w+\.antt)`")
 TRIED = re.compile(r"^\| `(\w+)` \| (\d+(?:, \d+)*) \|$", re.M)
@@ -78,7 +78,7 @@ def definitions():
     rests = {}
     for (file, name), lines in texts.items():
         where = imports(read("crates/" + file))
-        words = {word for line in lines for word in WORD.findall(line.replace(" .", " "))}
+        words = {word for line in lines for word in WORD.findall(line)}
         rests[file, name] = {named(word, file, where, texts) for word in words} - {None, (file, name)}
     return rests
 
@@ -92,7 +92,7 @@ def contracts(reading, known):
         crate, _, function = entry.rpartition("::")
         sources = [read(path) for path in paths(f"crates/{crate or 'capi'}/src/*.rt")]
         heads = [(text, match.group(1)) for text in sources
-                 for match in re.finditer(rf"\bfn {function}\b([^{{]*(?:ensures {{[^⌜]*⌜[^⌝]*⌝ }}\s*)+)", text)]
+                 for match in re.finditer(rf"\bfn {function}\b(.*?)\n *{{\n", text, re.S) if " ensures " in match.group(1)]
         if len(heads) != 1:
             fault(f"READING.md: `{entry}` is no function with a contract")
             continue
