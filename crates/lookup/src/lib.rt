@@ -1,5 +1,5 @@
 // Single questions about days, months, a calendar and the grids: total functions over any bytes and any 32-bit numbers.
-// The console asks them, and the host tests compare every answer with another implementation.
+// The console asks them; `lookup_c` hands them to C.
 #![tactic(auto)]
 
 ghost use Rattle.std.specs.Prelude.{◌≡◌, ◌&&◌, eqb, leb, ltb, get_or};
@@ -26,8 +26,7 @@ pub struct Date {
     pub day: u16,
 }
 
-#[unsafe(no_mangle)]
-pub extern "C" fn lookup_first_day(month: u32) -> u32
+pub fn lookup_first_day(month: u32) -> u32
     ensures { result ≡ or_outside (leb month month_count) (first_day month) }
 {
     if month <= MONTHS as u32 {
@@ -37,8 +36,7 @@ pub extern "C" fn lookup_first_day(month: u32) -> u32
     }
 }
 
-#[unsafe(no_mangle)]
-pub extern "C" fn lookup_third_friday(month: u32) -> u32
+pub fn lookup_third_friday(month: u32) -> u32
     ensures { result ≡ or_outside (ltb month month_count) (third_friday month) }
 {
     if month < MONTHS as u32 {
@@ -49,8 +47,7 @@ pub extern "C" fn lookup_third_friday(month: u32) -> u32
 }
 
 // The same from the constant table.
-#[unsafe(no_mangle)]
-pub extern "C" fn lookup_third_friday_table(month: u32) -> u32
+pub fn lookup_third_friday_table(month: u32) -> u32
     ensures { result ≡ or_outside (ltb month month_count) (third_friday month) }
 {
     if month < MONTHS as u32 {
@@ -61,8 +58,7 @@ pub extern "C" fn lookup_third_friday_table(month: u32) -> u32
     }
 }
 
-#[unsafe(no_mangle)]
-pub extern "C" fn lookup_month_of(day: u32) -> u32
+pub fn lookup_month_of(day: u32) -> u32
     ensures { result ≡ or_outside (ltb day day_count) (month_of day) }
 {
     if day < DAYS as u32 {
@@ -72,8 +68,7 @@ pub extern "C" fn lookup_month_of(day: u32) -> u32
     }
 }
 
-#[unsafe(no_mangle)]
-pub extern "C" fn lookup_date(day: u32) -> Date
+pub fn lookup_date(day: u32) -> Date
     ensures { result ≡ date_of day }
 {
     if day < DAYS as u32 {
@@ -92,8 +87,7 @@ pub extern "C" fn lookup_date(day: u32) -> Date
     }
 }
 
-#[unsafe(no_mangle)]
-pub extern "C" fn lookup_has_session(calendar: &[u8], day: u32) -> u32
+pub fn lookup_has_session(calendar: &[u8], day: u32) -> u32
     ensures { result ≡ yes (leb day 65535 && session calendar.now day) }
 {
     if day <= 65535 {
@@ -104,8 +98,7 @@ pub extern "C" fn lookup_has_session(calendar: &[u8], day: u32) -> u32
     0
 }
 
-#[unsafe(no_mangle)]
-pub extern "C" fn lookup_expiry(calendar: &[u8], month: u32) -> u32
+pub fn lookup_expiry(calendar: &[u8], month: u32) -> u32
     ensures { result ≡ or_outside (ltb month month_count) (expiry_of calendar.now month) }
 {
     if month < MONTHS as u32 {
@@ -115,8 +108,7 @@ pub extern "C" fn lookup_expiry(calendar: &[u8], month: u32) -> u32
     }
 }
 
-#[unsafe(no_mangle)]
-pub extern "C" fn lookup_next_session(calendar: &[u8], day: u32) -> u32
+pub fn lookup_next_session(calendar: &[u8], day: u32) -> u32
     ensures { result ≡ or_outside (ltb day day_count) (next_session calendar.now day) }
 {
     if day < DAYS as u32 {
@@ -127,8 +119,7 @@ pub extern "C" fn lookup_next_session(calendar: &[u8], day: u32) -> u32
 }
 
 // The first live month is asked of a calendar that passes its check.
-#[unsafe(no_mangle)]
-pub extern "C" fn lookup_first_live(calendar: &[u8], day: u32) -> u32
+pub fn lookup_first_live(calendar: &[u8], day: u32) -> u32
     ensures { result ≡ or_outside (eqb (calendar_cause calendar.now) 0 && ltb day day_count) (first_live (expiry_of calendar.now) day) }
 {
     let checked = passing::check(calendar);
@@ -143,8 +134,7 @@ pub extern "C" fn lookup_first_live(calendar: &[u8], day: u32) -> u32
 }
 
 // A place from 0 to 5 of the six live months.
-#[unsafe(no_mangle)]
-pub extern "C" fn lookup_live_month(first: u32, place: u32) -> u32
+pub fn lookup_live_month(first: u32, place: u32) -> u32
     ensures { result ≡ or_outside (leb first month_count && ltb place 6) (get_or (live_months first) place 0) }
 {
     if first <= MONTHS as u32 {
@@ -168,8 +158,7 @@ fn tier_number(tier: Tier) -> u32
     }
 }
 
-#[unsafe(no_mangle)]
-pub extern "C" fn lookup_tier_of(first: u32, month: u32) -> u32
+pub fn lookup_tier_of(first: u32, month: u32) -> u32
     ensures { result ≡ or_outside (leb first month_count && leb month 65535) (tier_number (tier_of first month)) }
 {
     if first <= MONTHS as u32 {
@@ -193,8 +182,7 @@ fn tier_at(tier: u32) -> Tier
     }
 }
 
-#[unsafe(no_mangle)]
-pub extern "C" fn lookup_on_grid(tier: u32, price: u32) -> u32
+pub fn lookup_on_grid(tier: u32, price: u32) -> u32
     ensures { result ≡ yes (leb tier 2 && elem price (grid_of (tier_numbered tier))) }
 {
     if tier <= 2 {
@@ -205,8 +193,7 @@ pub extern "C" fn lookup_on_grid(tier: u32, price: u32) -> u32
     0
 }
 
-#[unsafe(no_mangle)]
-pub extern "C" fn lookup_nearest(tier: u32, close: u32) -> u32
+pub fn lookup_nearest(tier: u32, close: u32) -> u32
     ensures { result ≡ or_outside (leb tier 2 && close_taken close) (nearest close (grid_of (tier_numbered tier))) }
 {
     if tier <= 2 {
@@ -219,8 +206,7 @@ pub extern "C" fn lookup_nearest(tier: u32, close: u32) -> u32
 }
 
 // The lowest and the highest price that a close requires.
-#[unsafe(no_mangle)]
-pub extern "C" fn lookup_required(tier: u32, close: u32) -> Strikes
+pub fn lookup_required(tier: u32, close: u32) -> Strikes
     ensures { result ≡ required_at tier close }
 {
     if tier <= 2 {

@@ -1,0 +1,115 @@
+// The questions of `lookup` for C: the archive with which the host tests compare every answer.
+#![tactic(auto)]
+
+ghost use Rattle.std.specs.Prelude.{◌≡◌, ◌&&◌, eqb, leb, ltb, get_or};
+ghost use Rattle.base.specs.Lists.{elem};
+ghost use Rattle.dates.specs.Months.{month_count, day_count, first_day, third_friday, month_of};
+ghost use Rattle.calendar.specs.Calendar.{session, calendar_cause, expiry_of, next_session};
+ghost use Rattle.calendar.specs.Live.{first_live, live_months, tier_of};
+ghost use Rattle.grid.specs.Grid.{grid_of, nearest, close_taken};
+ghost use Rattle.lookup.specs.Lookup.{or_outside, yes, tier_number, tier_numbered, required_at, date_of};
+
+use grid::Strikes;
+use lookup::Date;
+
+#[unsafe(no_mangle)]
+pub extern "C" fn lookup_first_day(month: u32) -> u32
+    ensures { result ≡ or_outside (leb month month_count) (first_day month) }
+{
+    lookup::lookup_first_day(month)
+}
+
+#[unsafe(no_mangle)]
+pub extern "C" fn lookup_third_friday(month: u32) -> u32
+    ensures { result ≡ or_outside (ltb month month_count) (third_friday month) }
+{
+    lookup::lookup_third_friday(month)
+}
+
+// The same from the constant table.
+#[unsafe(no_mangle)]
+pub extern "C" fn lookup_third_friday_table(month: u32) -> u32
+    ensures { result ≡ or_outside (ltb month month_count) (third_friday month) }
+{
+    lookup::lookup_third_friday_table(month)
+}
+
+#[unsafe(no_mangle)]
+pub extern "C" fn lookup_month_of(day: u32) -> u32
+    ensures { result ≡ or_outside (ltb day day_count) (month_of day) }
+{
+    lookup::lookup_month_of(day)
+}
+
+#[unsafe(no_mangle)]
+pub extern "C" fn lookup_date(day: u32) -> Date
+    ensures { result ≡ date_of day }
+{
+    lookup::lookup_date(day)
+}
+
+#[unsafe(no_mangle)]
+pub extern "C" fn lookup_has_session(calendar: &[u8], day: u32) -> u32
+    ensures { result ≡ yes (leb day 65535 && session calendar.now day) }
+{
+    lookup::lookup_has_session(calendar, day)
+}
+
+#[unsafe(no_mangle)]
+pub extern "C" fn lookup_expiry(calendar: &[u8], month: u32) -> u32
+    ensures { result ≡ or_outside (ltb month month_count) (expiry_of calendar.now month) }
+{
+    lookup::lookup_expiry(calendar, month)
+}
+
+#[unsafe(no_mangle)]
+pub extern "C" fn lookup_next_session(calendar: &[u8], day: u32) -> u32
+    ensures { result ≡ or_outside (ltb day day_count) (next_session calendar.now day) }
+{
+    lookup::lookup_next_session(calendar, day)
+}
+
+// The first live month is asked of a calendar that passes its check.
+#[unsafe(no_mangle)]
+pub extern "C" fn lookup_first_live(calendar: &[u8], day: u32) -> u32
+    ensures { result ≡ or_outside (eqb (calendar_cause calendar.now) 0 && ltb day day_count) (first_live (expiry_of calendar.now) day) }
+{
+    lookup::lookup_first_live(calendar, day)
+}
+
+// A place from 0 to 5 of the six live months.
+#[unsafe(no_mangle)]
+pub extern "C" fn lookup_live_month(first: u32, place: u32) -> u32
+    ensures { result ≡ or_outside (leb first month_count && ltb place 6) (get_or (live_months first) place 0) }
+{
+    lookup::lookup_live_month(first, place)
+}
+
+#[unsafe(no_mangle)]
+pub extern "C" fn lookup_tier_of(first: u32, month: u32) -> u32
+    ensures { result ≡ or_outside (leb first month_count && leb month 65535) (tier_number (tier_of first month)) }
+{
+    lookup::lookup_tier_of(first, month)
+}
+
+#[unsafe(no_mangle)]
+pub extern "C" fn lookup_on_grid(tier: u32, price: u32) -> u32
+    ensures { result ≡ yes (leb tier 2 && elem price (grid_of (tier_numbered tier))) }
+{
+    lookup::lookup_on_grid(tier, price)
+}
+
+#[unsafe(no_mangle)]
+pub extern "C" fn lookup_nearest(tier: u32, close: u32) -> u32
+    ensures { result ≡ or_outside (leb tier 2 && close_taken close) (nearest close (grid_of (tier_numbered tier))) }
+{
+    lookup::lookup_nearest(tier, close)
+}
+
+// The lowest and the highest price that a close requires.
+#[unsafe(no_mangle)]
+pub extern "C" fn lookup_required(tier: u32, close: u32) -> Strikes
+    ensures { result ≡ required_at tier close }
+{
+    lookup::lookup_required(tier, close)
+}
