@@ -8,11 +8,11 @@ use native.Mathlib.Nat.{add-suc}
 use native.Mathlib.Numerals.{add-one}
 use native.Mathlib.Omega.{arith}
 use lib.Dec.{eqb}
-use lib.ListN.{length, get_or, drop, set, drop_of_length-le}
-use lib.Seq.{drop-cons, drop-drop, get_or-drop, get_or-set_same, get_or-set_other, ext_get_or}
+use lib.ListN.{length, get_or, drop, drop_of_length-le}
+use lib.Seq.{drop-cons, drop-drop, get_or-drop, ext_get_or}
 use borrow.Author.Tests.{eqb-true, eq-eqb, ne_eqb}
 use Rattle.base.specs.Lists.{greatest_of}
-use Rattle.base.proofs.Tests.{by_le, and_l, and_r}
+use Rattle.base.proofs.Tests.{and_l, and_r}
 use Rattle.base.proofs.ListLaws.{least_step}
 use Rattle.layout.specs.Register.{waiting_of}
 use Rattle.base.specs.Words.{at16}
@@ -37,12 +37,6 @@ module _ (f : ℕ → List ℕ) where
   -- the first i places are filled
   abbrev pub Filled : List (List ℕ) → ℕ → Type 0
   Filled l i = (k : ℕ) → k < i → get_or l k [] ≡ f k
-
-  pub filled_more : (l : List (List ℕ)) (i : ℕ) (v : List ℕ) → i < length l → Filled l i → v ≡ f i → Filled (set l i v) (i + 1)
-  filled_more l i v h e w k u =
-      by_le i k
-      (λ a. let q : k ≡ i = omega arith in rw q (get_or-set_same l i v [] h ∙ w))
-      (λ a. get_or-set_other l i k v [] (λ q. omega arith) ∙ e k a)
 
   pub filled : (l : List (List ℕ)) (i : ℕ) → 6 ≤ i → length l ≡ 6 → Filled l i → l ≡ six f
   filled l i h n e = ext_get_or [] l (six f) n (λ k u. e k (omega arith) ∙ sym (six-at k (omega arith)))

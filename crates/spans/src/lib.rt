@@ -53,6 +53,7 @@ pub fn held_spans(before: [u16; 6], spans: [[u16; 2]; 6], months: [u16; 6]) -> [
 }
 
 // A span widened by what the close requires; a month that held none has what the close requires.
+#[tactic(auto, unfolding(crate::specs::Spans::close_pair))]
 fn close_pair(held: [u16; 2], low: u16, high: u16) -> [u16; 2]
     ensures { result ≡ close_pair held low high }
 {
@@ -103,6 +104,7 @@ fn with_announced(register: &[u8], n: usize, month: u16, span: [u16; 2]) -> [u16
     [low, high]
 }
 
+#[tactic(auto, unfolding(crate::specs::Spans::new_pair))]
 fn new_pair(register: &[u8], n: usize, month: u16, held: [u16; 2], wide: [u16; 2]) -> [u16; 2]
     requires { (length register.now ≡ register_length) × (n ≤ most_waiting) }
     ensures { result ≡ new_pair (read_places n (drop places_from register.now)) month held wide }
