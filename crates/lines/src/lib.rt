@@ -1,7 +1,6 @@
 // The lines of a list that a person may have written: comments, words, and a line shown in a message.
 #![tactic(auto)]
 
-
 // How many bytes of a line a message shows.
 const SHOWN: usize = 60;
 

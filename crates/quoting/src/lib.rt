@@ -1,7 +1,6 @@
 // Names of files as words of a command line, for messages that tell a command to run.
 #![tactic(auto)]
 
-
 // Letters that a shell leaves as they are.
 fn is_plain(byte: u8) -> bool {
     (b'-' <= byte && byte <= b'9')
