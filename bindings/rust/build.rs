@@ -1,11 +1,11 @@
-//! Links the proved archive from the folder that RATTLE_LIB_DIR names. Where it is unset, `rt`
-//! proves the crates and makes the archive.
+//! Links the proved archive from the folder that RATTLE_LIB_DIR names. Where it is unset, the
+//! repository's make has `rt` prove the crates and build the archive.
 
 use std::env;
 use std::path::{Path, PathBuf};
 use std::process::Command;
 
-/// As `rt staticlib` calls it, and as it is installed.
+/// As the repository's make calls it, and as it is installed.
 const NAMES: [&str; 2] = ["capi", "sindhopul"];
 
 fn main() {
@@ -27,11 +27,11 @@ fn main() {
 fn make() -> PathBuf {
     let root = Path::new(env!("CARGO_MANIFEST_DIR")).join("../..");
     println!("cargo:rerun-if-changed={}", root.join("crates").display());
-    let status = Command::new("rt")
-        .args(["staticlib", "capi"])
+    let status = Command::new("make")
+        .arg("build/archives/libcapi.a")
         .current_dir(&root)
         .status()
-        .expect("rt is needed to make the archive; else set RATTLE_LIB_DIR");
-    assert!(status.success(), "rt staticlib capi: {status}");
-    root.join("target/staticlib")
+        .expect("make is needed to have the archive built; else set RATTLE_LIB_DIR");
+    assert!(status.success(), "make build/archives/libcapi.a: {status}");
+    root.join("build/archives")
 }
