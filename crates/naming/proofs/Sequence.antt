@@ -16,7 +16,7 @@ use Rattle.fields.specs.Arranged.{arranged}
 use Rattle.fields.proofs.Arranged.{lookup, above, arranged_is, swapped, found-append}
 use Rattle.naming.specs.DayFile.{new_rows, series_of}
 use Rattle.naming.specs.Parts.{sequence}
-use Rattle.naming.proofs.Rises.{name_in, both, TwoYears, type_rises, all_rise}
+use Rattle.naming.proofs.Rises.{name-in, both, TwoYears, type_rises, all_rise}
 
 -- ---- series of rows
 pub series-append : (k : ℕ) (xs ys : List Row) → series_of k (xs ++ ys) ≡ series_of k xs ++ series_of k ys
@@ -31,7 +31,7 @@ name_some m k p = refl
 series_above : (k : ℕ) (rs : List Row) (rest : List Field) → above [] rest ≡ true → above [] (series_of k rs ++ rest) ≡ true
 unfolding series_of above
 series_above k [] rest h = h
-series_above k (r ∷ rs) rest h = rw (name_in r.month k r.price r.entry.origin, name_some r.month k r.price) (series_above k rs rest h)
+series_above k (r ∷ rs) rest h = rw (name-in r.month k r.price r.entry.origin, name_some r.month k r.price) (series_above k rs rest h)
 
 pub all_above : (rs : List Row) → above [] (series_of 0 rs ++ series_of 1 rs) ≡ true
 unfolding above
