@@ -86,8 +86,8 @@ pub fn rows_number(calendar: &[u8], register: &[u8], month: u32) -> u16
 
 // The part of the caller's register that holds a month's rows; for every refusal the empty part at byte 0. An entry point: it takes any bytes.
 pub fn rows<'a>(calendar: &[u8], register: &'a [u8], month: u32) -> &'a [u8]
-    ensures result_value { result.now ≡ rows_part (rules calendar.now) register.now month }
-    ensures ref_ptr_value { result.ref_ptr ≡ pointer_to register.entry (rows_place (rules calendar.now) register.now month).at }
+    ensures part { result.now ≡ rows_part (rules calendar.now) register.now month }
+    ensures pointer { result.ref_ptr ≡ pointer_to register.entry (rows_place (rules calendar.now) register.now month).at }
 {
     let place = rows_place(calendar, register, month);
     let at = place.at as usize;

@@ -1,0 +1,53 @@
+-- `rows::month_place` meets its contract. The loop keeps an equation: the months left, from the byte reached, give the place.
+-- Assumes nothing.
+use mathlib.Core.Path.{◌≡◌, refl, sym, ap, ◌∙◌}
+use mathlib.Core.List.{List}
+use Prim.Native.Nat.{ℕ, ◌*◌}
+use native.Mathlib.Omega.{arith}
+use lib.ListN.{drop, drop_of_length-le}
+use Rattle.rows.specs.Places.{month_place}
+use Rattle.scan.proofs.Steps.{six_months}
+use Rattle.rows.proofs.MonthRows.{size_at, rows-here, rows_next}
+use Rattle.rows.proofs.month_place.Goals.{After-ladder_size-size}
+use Rattle.rows.proofs.month_place.Goals as goal
+
+size : (c : After-ladder_size-size) →
+    let a = c.args in
+    let months = c.live_months-months.result in
+    8 * c.ladder_size-size.result ≡ size_at a.first months a.spans c.loop-i.i
+size c = rw c.tier_of.ensures at (ap (λ (k : ℕ). 8 * k) c.ladder_size-size.ensures.0)
+
+pub loop-i-init : goal.loop-i-init
+loop-i-init c = (omega arith, omega arith, refl)
+
+pub ladder_size-size-requires : goal.ladder_size-size-requires
+ladder_size-size-requires c = c.requires.1 c.loop-i.i c.loop-i-test.true
+
+pub returns-then-month-live : goal.returns-then-month-live
+returns-then-month-live c =
+    let a = c.args in
+    let l = c.loop-i in
+    let v = c.live_months-months in
+    let n = six_months _ _ v.ensures in
+    rw (← v.ensures, size (goal.at.returns-then-month-live c).After-ladder_size-size)
+    (sym (l.invariant.2 ∙ rows-here a.first a.month l.at v.result a.spans l.i (omega arith) c.if-month-live.true))
+
+pub loop-i-preserved : goal.loop-i-preserved
+loop-i-preserved c =
+    let a = c.args in
+    let l = c.loop-i in
+    let v = c.live_months-months in
+    let n = six_months _ _ v.ensures in
+    let e = rows_next a.first a.month l.at v.result a.spans l.i (omega arith) c.if-month-live.false in
+    (omega arith, omega (arith, c.ladder_size-size.ensures.1), l.invariant.2 ∙ e ∙ rw (← size (goal.at.loop-i-preserved c).After-ladder_size-size))
+
+pub returns : goal.returns
+unfolding month_place
+returns c =
+    let a = c.args in
+    let l = c.loop-i in
+    let v = c.live_months-months in
+    let n = six_months _ _ v.ensures in
+    let d = drop_of_length-le v.result {i = l.i} (omega arith) in
+    c.refused.ensures
+    ∙ rw (← v.ensures) (sym (l.invariant.2 ∙ ap (λ (ms : List ℕ). month_place a.first a.month l.at ms (drop l.i a.spans)) d))
