@@ -19,7 +19,7 @@ LIBRARY = set("append length take drop map reverse eqb leb ltb cond min max get_
 # `first_of` is a tactic now; the others are parameters of modules.
 FIXED = {"first_of": "first_cause", "hasSession": "has_session", "numbersAfter": "numbers_after", "sessionCall": "session_call"}
 # Lemmas to which port.py gave the name that a definition has now: back to their dash.
-DASHED = {"high_after": "crates/history/proofs/Simulation.antt", "name_in": "crates/naming/proofs/Rises.antt crates/loader/proofs/Found.antt"}
+DASHED = {"high_after": "crates/history/proofs/Simulation.antt", "name_in": "crates/naming/proofs/*.antt crates/loader/proofs/*.antt"}
 TEXTS = ["README.md", "CONTRIBUTING.md"] + ["docs/%s.md" % n for n in "ARCHITECTURE DECISIONS FORMAT READING RULES".split()]
 
 
@@ -73,7 +73,7 @@ def renamings():
 
 def main():
     for name, paths in DASHED.items():
-        for path in paths.split():
+        for path in [path for pattern in paths.split() for path in glob.glob(pattern)]:
             text = open(path, encoding="utf-8").read()
             open(path, "w", encoding="utf-8").write(TOKEN.sub(lambda m: name.replace("_", "-") if m.group(0) == name else m.group(0), text))
     names = renamings()
