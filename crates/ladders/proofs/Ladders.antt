@@ -60,9 +60,6 @@ module _ (first : ℕ) (plans : ℕ → Plan) (start old : List ℕ) where
     }
 
     module _ (register : List ℕ) (at from i : ℕ) (inv : Inv register at from i) where
-      pub at_in : at ≤ register_length
-      at_in = omega (arith, inv.end, ready.room)
-
       module _ (h : i < 6) where
         next : (o : List Row) → ladders_from plans i (6 - i) o ≡ ladder_by (plans i) (prices_in (plans i)) o ++ ladders_from plans (i + 1) (6 - (i + 1)) (left_by (plans i) (prices_in (plans i)) o)
         unfolding ladders_from

@@ -45,8 +45,9 @@ pub struct Written {
     pub used: usize,
 }
 
-fn covers(span: Strikes, price: u16) -> bool
-    ensures { result ≡ within span.low span.high price }
+#[tactic(auto, unfolding(base::specs::Lists::within))]
+fn covers(span: &Strikes, price: u16) -> bool
+    ensures { result ≡ within span.now.low span.now.high price }
 {
     if span.low <= price {
         price <= span.high
@@ -56,11 +57,12 @@ fn covers(span: Strikes, price: u16) -> bool
 }
 
 // The origin of a row that is added.
-fn added_origin(plan: Plan, price: u16) -> u8
-    ensures { result ≡ added_origin plan price }
+#[tactic(auto, unfolding(crate::specs::Writing::added_origin))]
+fn added_origin(plan: &Plan, price: u16) -> u8
+    ensures { result ≡ added_origin plan.now price }
 {
-    let held = plan.held;
-    let wide = plan.wide;
+    let held = &plan.held;
+    let wide = &plan.wide;
     if held.low == 0 {
         plan.origin
     } else if covers(held, price) {
@@ -73,8 +75,8 @@ fn added_origin(plan: Plan, price: u16) -> u8
 }
 
 // The price of the first of the old rows where that is of the plan's month; else 0.
-fn next_price(plan: Plan, old: &[u8]) -> u16
-    ensures { result ≡ next_price plan (rows_in old.now) }
+fn next_price(plan: &Plan, old: &[u8]) -> u16
+    ensures { result ≡ next_price plan.now (rows_in old.now) }
 {
     if old.len() < ROW_LENGTH {
         return 0;
@@ -99,11 +101,11 @@ fn nearer(end: u64, edge: u64, price: u64) -> u64
 }
 
 // Where added rows from a price on cease to be alike: at an end, at the next old row, and where a span begins or has ended.
-fn stretch_end(plan: Plan, next: u16, end: u64, price: u64) -> u64
-    ensures { Ends plan next end price result }
+fn stretch_end(plan: &Plan, next: u16, end: u64, price: u64) -> u64
+    ensures { Ends plan.now next end price result }
 {
-    let held = plan.held;
-    let wide = plan.wide;
+    let held = &plan.held;
+    let wide = &plan.wide;
     let end = nearer(end, next as u64, price);
     let end = nearer(end, held.low as u64, price);
     let end = nearer(end, held.high as u64 + 1, price);
@@ -112,9 +114,9 @@ fn stretch_end(plan: Plan, next: u16, end: u64, price: u64) -> u64
 }
 
 // The rows from a price on: the first of the old rows where that is its row, else those that are added up to the next change.
-fn stretch_from(plan: Plan, old: &[u8], price: u64) -> Stretch
+fn stretch_from(plan: &Plan, old: &[u8], price: u64) -> Stretch
     requires { (0 < price) × (price < 10000) }
-    ensures { Alike plan old.now price result result.used }
+    ensures { Alike plan.now old.now price result result.used }
 {
     let next = next_price(plan, old);
     let tier = plan.tier;
@@ -174,7 +176,7 @@ fn write_ladder(rest: &mut [u8], old: &[u8], plan: Plan) -> Written
     let mut from: usize = 0;
     while price <= high {
         if stretch.end <= price {
-            stretch = stretch_from(plan, &old[from..], price);
+            stretch = stretch_from(&plan, &old[from..], price);
             from += stretch.used;
         }
         write_row(
