@@ -49,9 +49,10 @@ fn announce_cause(
     month: u32,
     price: u32,
 ) -> u16
-    requires passes { Passes calendar.now × (length register.now ≡ register_length) }
-    requires register_value { runs_well calendar.now register.now ≡ true }
-    requires spans_value { spans ≡ spans_of (body_of register.now) (live_months (first_at calendar.now (moment_of register.now))) }
+    requires passes { Passes calendar.now }
+    requires size { length register.now ≡ register_length }
+    requires well { runs_well calendar.now register.now ≡ true }
+    requires spans_are { spans ≡ spans_of (body_of register.now) (live_months (first_at calendar.now (moment_of register.now))) }
     ensures { result ≡ number (rules calendar.now) (Call.announce month price) (running (body_of register.now)) }
 {
     let first = calendar::first_live(calendar, base::word(register, DAY));

@@ -1,0 +1,10 @@
+-- `announcing::put_announcement` meets its contract: the place behind those that wait, and the count.
+-- Assumes nothing.
+use Rattle.announcing.proofs.Placed.{put_is}
+use Rattle.announcing.proofs.put_announcement.Goals as goal
+
+pub returns : goal.returns
+returns c =
+    let a = c.args in
+    let p = put_is a.register.now c.requires a.month a.price c.write_place.new.part c.write_place.ensures in
+    record { value = p.0; register_after = p.1 }
