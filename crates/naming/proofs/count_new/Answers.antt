@@ -1,6 +1,6 @@
 -- `naming::count_new` meets its contract: what the loop keeps is how many of the rows passed are new.
 -- Assumes nothing.
-use mathlib.Core.Path.{◌≡◌, sym, ap, ◌∙◌}
+use mathlib.Core.Path.{sym, ap, ◌∙◌}
 use native.Mathlib.Omega.{arith}
 use lib.ListN.{length}
 use Rattle.layout.specs.Bytes.{read_rows}
@@ -21,10 +21,3 @@ loop-i-preserved c =
       | then-is_new w ↦ (omega arith, omega (arith, w.new-is, l.invariant), omega (arith, w.new-is, l.invariant, one_more a.day a.register.now a.at l.i (sym c.is_new.ensures ∙ w.if-is_new.true)))
       | else-is_new w ↦ (omega arith, omega (arith, w.new-is, l.invariant), omega (arith, w.new-is, l.invariant, ap length (new_other a.day a.register.now a.at l.i (sym c.is_new.ensures ∙ w.if-is_new.false))))
     ]
-
-pub returns : goal.returns
-returns c =
-    let a = c.args in
-    let l = c.loop-i in
-    let e : l.i ≡ a.rows = omega arith in
-    (l.invariant.2 ∙ rw e, omega arith)

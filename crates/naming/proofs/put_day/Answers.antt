@@ -2,20 +2,10 @@
 -- Assumes nothing.
 use mathlib.Core.List.{[], ◌∷◌}
 use native.Mathlib.Omega.{arith}
-use lib.ListN.{length-set}
 use lib.Seq.{sets-eq}
 use Rattle.base.specs.Words.{two}
 use Rattle.fields.specs.Fields.{fields_bytes, day_field}
 use Rattle.naming.proofs.put_day.Goals as goal
-
-pub bounds-part-1 : goal.bounds-part-1
-bounds-part-1 c = simp length-set (omega arith)
-
-pub bounds-part-2 : goal.bounds-part-2
-bounds-part-2 c = simp length-set (omega arith)
-
-pub bounds-part-3 : goal.bounds-part-3
-bounds-part-3 c = simp length-set (omega arith)
 
 pub returns : goal.returns
 unfolding fields_bytes day_field two

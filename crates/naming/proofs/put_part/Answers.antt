@@ -73,9 +73,6 @@ loop-i-preserved c =
       | else-is_new w ↦ rw (w.part-is, w.end-is, new_other a.day a.register.now a.at l.i (sym c.is_new.ensures ∙ w.if-is_new.false)) (omega arith, l.invariant.1, l.invariant.2, l.invariant.3)
     ]
 
-pub shape_of-part : goal.shape_of-part
-shape_of-part c = c.loop-i.invariant.2
-
 pub returns : goal.returns
 returns c =
     let a = c.args in

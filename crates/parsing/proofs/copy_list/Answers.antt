@@ -41,9 +41,6 @@ loop-i-preserved c =
     let next : l.i < length (series_in (file_read c.args.file.now)) = omega (arith, c.requires.1) in
     copy-on c.args.file.now c.args.list.now c.requires.0 l.list l.i l.invariant next c.copy_series.new.part c.copy_series.ensures c.list-1.given.1
 
-pub shape_of-list : goal.shape_of-list
-shape_of-list c = c.loop-i.invariant.size
-
 pub returns : goal.returns
 returns c =
     rw c.requires.1 (copy_ends c.args.file.now c.args.list.now c.requires.0 c.loop-i.list c.loop-i.i c.loop-i.invariant (omega (arith, c.requires.1)))

@@ -1,14 +1,11 @@
 -- `parsing::first_wrong` meets its contract. The loop keeps an equation: the search from `place` on is the whole search.
 -- Assumes nothing.
-use mathlib.Core.Path.{refl, sym, ap, ◌∙◌}
+use mathlib.Core.Path.{sym, ap, ◌∙◌}
 use mathlib.Core.Bool.{not}
 use native.Mathlib.Omega.{arith}
 use Rattle.base.proofs.SearchLaws.{first_end, first_hit, first_miss}
 use Rattle.parsing.proofs.Checks.{wrong_end, wrong-at}
 use Rattle.parsing.proofs.first_wrong.Goals as goal
-
-pub loop-place-init : goal.loop-place-init
-loop-place-init c = (omega arith, refl)
 
 pub returns-then-n-at : goal.returns-then-n-at
 returns-then-n-at c =
