@@ -14,7 +14,7 @@ const PRICE: usize = 7;
 
 // A place by its field, 0 for the day's or the number of a series, and by where it stands in the field. Fields before it are
 // whole.
-#[derive(Drop)]
+#[derive(Clone, Copy)]
 struct Spot {
     series: u32,
     place: u32,
