@@ -7,8 +7,8 @@ use commands::{PICTURE, ROWS, SHOW};
 use dates::DAYS;
 use files::{Installed, Loaded};
 use holidays::{Made, Reason};
-use libc::{STDERR_FILENO, STDOUT_FILENO};
 use names::Series;
+use system::{Stream, System};
 use terminal::{DONE, REFUSED, TROUBLE, refuse, say};
 use text::Parsed;
 
@@ -22,8 +22,8 @@ fn count_sessions(calendar: &[u8]) -> u32 {
     sessions
 }
 
-fn check_bytes(calendar: &[u8]) -> i32 {
-    let mut out = io::buffer();
+fn check_bytes(system: &System, calendar: &[u8]) -> i32 {
+    let mut out = system::buffer();
     let checked = passing::check(calendar);
     if checked.number != 0 {
         let end = wording::calendar_refusal(
@@ -33,10 +33,10 @@ fn check_bytes(calendar: &[u8]) -> i32 {
             checked.number,
             checked.month as u32,
         );
-        return say(STDERR_FILENO, &out, end, REFUSED);
+        return say(system, Stream::Error, &out, end, REFUSED);
     }
     let end = put_sessions(&mut out, calendar);
-    say(STDOUT_FILENO, &out, end, DONE)
+    say(system, Stream::Output, &out, end, DONE)
 }
 
 // That a calendar is accepted, and how many sessions it has.
@@ -46,30 +46,30 @@ fn put_sessions(out: &mut [u8], calendar: &[u8]) -> usize {
     phrases::fill(out, 0, form, [sessions, 0, 0, 0, 0, 0])
 }
 
-fn tell_sessions(calendar: &[u8]) -> i32 {
+fn tell_sessions(system: &System, calendar: &[u8]) -> i32 {
     let mut out = [0u8; 128];
     let end = put_sessions(&mut out, calendar);
-    terminal::tell(&out, end, b"the calendar")
+    terminal::tell(system, &out, end, b"the calendar")
 }
 
-pub fn check() -> i32 {
-    let mut space = io::large_buffer();
-    let Loaded::Bytes(n) = terminal::text(2, &mut space) else {
+pub fn check(system: &System) -> i32 {
+    let mut space = system::large_buffer();
+    let Loaded::Bytes(n) = terminal::text(system, 2, &mut space) else {
         return TROUBLE;
     };
-    check_bytes(text::part(&space, 0, n))
+    check_bytes(system, text::part(&space, 0, n))
 }
 
-fn complain_list(what: &[u8]) {
-    let mut path = io::buffer();
-    let n = commands::word(2, &mut path);
-    files::complain(text::part(&path, 0, n), what);
+fn complain_list(system: &System, what: &[u8]) {
+    let mut path = system::buffer();
+    let n = commands::word(system, 2, &mut path);
+    files::complain(system, text::part(&path, 0, n), what);
 }
 
-fn complain_line(list: &[u8], line: u32, reason: Reason) {
-    let mut out = io::buffer();
+fn complain_line(system: &System, list: &[u8], line: u32, reason: Reason) {
+    let mut out = system::buffer();
     let end = holidays::complaint(&mut out, 0, list, line, reason);
-    complain_list(text::part(&out, 0, end));
+    complain_list(system, text::part(&out, 0, end));
 }
 
 // Whether a calendar is that of an empty list, as of one that was lost on its way.
@@ -80,34 +80,34 @@ fn lists_nothing(calendar: &[u8]) -> bool {
 }
 
 // Makes the calendar of a list and, where it passes its check, writes it.
-fn make_of(list: &[u8]) -> i32 {
+fn make_of(system: &System, list: &[u8]) -> i32 {
     let mut calendar = space::calendar();
     let made = holidays::make(list, &mut calendar);
     if let Made::Refused(line, reason) = made {
-        complain_line(list, line, reason);
+        complain_line(system, list, line, reason);
         return TROUBLE;
     }
     if lists_nothing(&calendar) {
-        complain_list(b"it lists no day: it is no list of days");
+        complain_list(system, b"it lists no day: it is no list of days");
         return TROUBLE;
     }
     let checked = passing::check(&calendar);
     if checked.number != 0 {
-        return check_bytes(&calendar);
+        return check_bytes(system, &calendar);
     }
-    let installed = terminal::replace(3, &calendar);
+    let installed = terminal::replace(system, 3, &calendar);
     match installed {
-        Installed::Done => tell_sessions(&calendar),
+        Installed::Done => tell_sessions(system, &calendar),
         _ => TROUBLE,
     }
 }
 
-pub fn make_calendar() -> i32 {
+pub fn make_calendar(system: &System) -> i32 {
     let mut space = space::list();
-    let Loaded::Bytes(n) = terminal::text(2, &mut space) else {
+    let Loaded::Bytes(n) = terminal::text(system, 2, &mut space) else {
         return TROUBLE;
     };
-    make_of(text::part(&space, 0, n))
+    make_of(system, text::part(&space, 0, n))
 }
 
 // The rows of the six live months, in their order.
@@ -120,116 +120,116 @@ fn rows_of_all(out: &mut [u8], calendar: &[u8], register: &[u8]) -> usize {
     at
 }
 
-fn rows(calendar: &[u8], register: &[u8]) -> i32 {
+fn rows(system: &System, calendar: &[u8], register: &[u8]) -> i32 {
     let mut out = space::output();
-    if commands::count() == 4 {
+    if commands::count(system) == 4 {
         let end = rows_of_all(&mut out, calendar, register);
-        return say(STDOUT_FILENO, &out, end, DONE);
+        return say(system, Stream::Output, &out, end, DONE);
     }
-    let Parsed::Number(month) = terminal::number(4, terminal::MONTH) else {
+    let Parsed::Number(month) = terminal::number(system, 4, terminal::MONTH) else {
         return TROUBLE;
     };
     let end = report::rows(&mut out, 0, calendar, register, month);
     if end == 0 {
-        return refuse(calendar, register, causes::ROWS_MONTH, 0, month, 0);
+        return refuse(system, calendar, register, causes::ROWS_MONTH, 0, month, 0);
     }
-    say(STDOUT_FILENO, &out, end, DONE)
+    say(system, Stream::Output, &out, end, DONE)
 }
 
-fn is_stream(i: usize) -> bool {
-    let mut space = io::buffer();
-    let n = commands::word(i, &mut space);
+fn is_stream(system: &System, i: usize) -> bool {
+    let mut space = system::buffer();
+    let n = commands::word(system, i, &mut space);
     text::same(text::part(&space, 0, n), b"-")
 }
 
-fn draw(calendar: &[u8], register: &[u8]) -> i32 {
+fn draw(system: &System, calendar: &[u8], register: &[u8]) -> i32 {
     let mut out = space::output();
     let end = picture::svg(&mut out, 0, calendar, register);
-    if is_stream(4) {
-        return say(STDOUT_FILENO, &out, end, DONE);
+    if is_stream(system, 4) {
+        return say(system, Stream::Output, &out, end, DONE);
     }
-    let installed = terminal::replace(4, text::part(&out, 0, end));
+    let installed = terminal::replace(system, 4, text::part(&out, 0, end));
     match installed {
         Installed::Done => DONE,
         _ => TROUBLE,
     }
 }
 
-fn refuse_name(number: u16, place: u16) -> i32 {
-    let mut out = io::buffer();
+fn refuse_name(system: &System, number: u16, place: u16) -> i32 {
+    let mut out = system::buffer();
     let end = wording::name_refusal(&mut out, 0, number, place as u32);
-    say(STDERR_FILENO, &out, end, REFUSED)
+    say(system, Stream::Error, &out, end, REFUSED)
 }
 
-fn series_of(i: usize) -> Series {
-    let mut space = io::buffer();
-    let n = commands::word(i, &mut space);
+fn series_of(system: &System, i: usize) -> Series {
+    let mut space = system::buffer();
+    let n = commands::word(system, i, &mut space);
     names::read(text::part(&space, 0, n))
 }
 
-fn explain(calendar: &[u8], register: &[u8], month: u32, price: u32) -> i32 {
-    let mut out = io::buffer();
+fn explain(system: &System, calendar: &[u8], register: &[u8], month: u32, price: u32) -> i32 {
+    let mut out = system::buffer();
     let end = inquiry::why(&mut out, 0, calendar, register, month, price);
-    say(STDOUT_FILENO, &out, end, DONE)
+    say(system, Stream::Output, &out, end, DONE)
 }
 
-fn why(calendar: &[u8], register: &[u8]) -> i32 {
-    if commands::count() == 5 {
-        let series = series_of(4);
+fn why(system: &System, calendar: &[u8], register: &[u8]) -> i32 {
+    if commands::count(system) == 5 {
+        let series = series_of(system, 4);
         if series.number != 0 {
-            return refuse_name(series.number, series.month);
+            return refuse_name(system, series.number, series.month);
         }
-        return explain(calendar, register, series.month as u32, series.price as u32);
+        return explain(system, calendar, register, series.month as u32, series.price as u32);
     }
-    let Parsed::Number(month) = terminal::number(4, terminal::MONTH) else {
+    let Parsed::Number(month) = terminal::number(system, 4, terminal::MONTH) else {
         return TROUBLE;
     };
-    let Parsed::Number(price) = terminal::number(5, terminal::PRICE) else {
+    let Parsed::Number(price) = terminal::number(system, 5, terminal::PRICE) else {
         return TROUBLE;
     };
-    explain(calendar, register, month, price)
+    explain(system, calendar, register, month, price)
 }
 
-fn show(calendar: &[u8], register: &[u8]) -> i32 {
-    let mut out = io::buffer();
+fn show(system: &System, calendar: &[u8], register: &[u8]) -> i32 {
+    let mut out = system::buffer();
     let end = report::show(&mut out, 0, calendar, register);
-    say(STDOUT_FILENO, &out, end, DONE)
+    say(system, Stream::Output, &out, end, DONE)
 }
 
 // A question about a register; one that cannot be used is refused.
-pub fn ask(command: u32, calendar: &[u8], register: &[u8]) -> i32 {
+pub fn ask(system: &System, command: u32, calendar: &[u8], register: &[u8]) -> i32 {
     let number = reading::cause(calendar, register);
     if number != 0 {
         let checked = passing::check(calendar);
-        return refuse(calendar, register, number, checked.month, 0, 0);
+        return refuse(system, calendar, register, number, checked.month, 0, 0);
     }
     match command {
-        ROWS => rows(calendar, register),
-        SHOW => show(calendar, register),
-        PICTURE => draw(calendar, register),
-        _ => why(calendar, register),
+        ROWS => rows(system, calendar, register),
+        SHOW => show(system, calendar, register),
+        PICTURE => draw(system, calendar, register),
+        _ => why(system, calendar, register),
     }
 }
 
-fn read_name() -> i32 {
-    let series = series_of(2);
+fn read_name(system: &System) -> i32 {
+    let series = series_of(system, 2);
     if series.number != 0 {
-        return refuse_name(series.number, series.month);
+        return refuse_name(system, series.number, series.month);
     }
     let mut out = [0u8; 32];
     let values = [series.month as u32, series.price as u32, 0, 0, 0, 0];
     if series.kind == 0 {
         let end = phrases::fill(&mut out, 0, b"%m call %n\n", values);
-        return say(STDOUT_FILENO, &out, end, DONE);
+        return say(system, Stream::Output, &out, end, DONE);
     }
     let end = phrases::fill(&mut out, 0, b"%m put %n\n", values);
-    say(STDOUT_FILENO, &out, end, DONE)
+    say(system, Stream::Output, &out, end, DONE)
 }
 
 // 0 for a call, 1 for a put.
-fn kind_of(i: usize) -> Parsed {
-    let mut space = io::buffer();
-    let n = commands::word(i, &mut space);
+fn kind_of(system: &System, i: usize) -> Parsed {
+    let mut space = system::buffer();
+    let n = commands::word(system, i, &mut space);
     let word = text::part(&space, 0, n);
     if text::same(word, b"call") {
         return Parsed::Number(0);
@@ -237,34 +237,34 @@ fn kind_of(i: usize) -> Parsed {
     if text::same(word, b"put") {
         return Parsed::Number(1);
     }
-    files::complain(word, b"is neither call nor put");
+    files::complain(system, word, b"is neither call nor put");
     Parsed::Bad
 }
 
-fn write_name(month: u32, kind: u32, price: u32) -> i32 {
+fn write_name(system: &System, month: u32, kind: u32, price: u32) -> i32 {
     let mut name = [0u8; 11];
     let number = names::write(&mut name, month, kind, price);
     if number != 0 {
-        return refuse_name(number, 0);
+        return refuse_name(system, number, 0);
     }
     let mut out = [0u8; 16];
     let at = text::put(&mut out, 0, &name);
     let end = text::put(&mut out, at, b"\n");
-    say(STDOUT_FILENO, &out, end, DONE)
+    say(system, Stream::Output, &out, end, DONE)
 }
 
-pub fn name() -> i32 {
-    if commands::count() == 3 {
-        return read_name();
+pub fn name(system: &System) -> i32 {
+    if commands::count(system) == 3 {
+        return read_name(system);
     }
-    let Parsed::Number(month) = terminal::number(2, terminal::MONTH) else {
+    let Parsed::Number(month) = terminal::number(system, 2, terminal::MONTH) else {
         return TROUBLE;
     };
-    let Parsed::Number(kind) = kind_of(3) else {
+    let Parsed::Number(kind) = kind_of(system, 3) else {
         return TROUBLE;
     };
-    let Parsed::Number(price) = terminal::number(4, terminal::PRICE) else {
+    let Parsed::Number(price) = terminal::number(system, 4, terminal::PRICE) else {
         return TROUBLE;
     };
-    write_name(month, kind, price)
+    write_name(system, month, kind, price)
 }

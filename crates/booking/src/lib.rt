@@ -8,8 +8,8 @@ use commands::{JOURNAL, WITH_FILE, YES};
 use files::{Installed, Loaded};
 use filing::{Locks, Saved};
 use keeping::Kept;
-use libc::STDOUT_FILENO;
 use report::Totals;
+use system::{Stream, System};
 use terminal::{DONE, TROUBLE, refuse, say};
 use text::Parsed;
 
@@ -21,8 +21,8 @@ fn first(pairs: &[[u32; 2]]) -> [u32; 2] {
     [pairs[0][0], pairs[0][1]]
 }
 
-fn not_called() -> i32 {
-    files::complain(
+fn not_called(system: &System) -> i32 {
+    files::complain(system, 
         b"the call",
         b"it was not made: no call has this kind and so many pairs",
     );
@@ -30,7 +30,7 @@ fn not_called() -> i32 {
 }
 
 // The values beside the number of an accepted start or session.
-fn totals_of(answer: Answer) -> Totals {
+fn totals_of(answer: &Answer) -> Totals {
     Totals {
         added: answer.first as u32,
         removed: answer.second as u32,
@@ -39,28 +39,28 @@ fn totals_of(answer: Answer) -> Totals {
 }
 
 // What has moved with an accepted call.
-fn tell_moved(out: &[u8], end: usize) -> i32 {
-    let has_file = commands::has(WITH_FILE);
-    let has_journal = commands::has(JOURNAL);
+fn tell_moved(system: &System, out: &[u8], end: usize) -> i32 {
+    let has_file = commands::has(system, WITH_FILE);
+    let has_journal = commands::has(system, JOURNAL);
     if has_file && has_journal {
-        return terminal::tell(out, end, b"register, journal and file of series");
+        return terminal::tell(system, out, end, b"register, journal and file of series");
     }
     if has_file {
-        return terminal::tell(out, end, b"register and file of series");
+        return terminal::tell(system, out, end, b"register and file of series");
     }
     if has_journal {
-        return terminal::tell(out, end, b"register and journal");
+        return terminal::tell(system, out, end, b"register and journal");
     }
-    terminal::tell(out, end, b"the register")
+    terminal::tell(system, out, end, b"the register")
 }
 
 // What was written to the file of series, of so many bytes, if one is asked for.
-fn put_file(out: &mut [u8], at: usize, after: &[u8], length: usize) -> usize {
+fn put_file(system: &System, out: &mut [u8], at: usize, after: &[u8], length: usize) -> usize {
     if length == 0 {
         return at;
     }
-    let mut name = io::buffer();
-    let n = commands::value(WITH_FILE, &mut name);
+    let mut name = system::buffer();
+    let n = commands::value(system, WITH_FILE, &mut name);
     let at = text::put_byte(out, at, b'\n');
     report::written(
         out,
@@ -72,21 +72,20 @@ fn put_file(out: &mut [u8], at: usize, after: &[u8], length: usize) -> usize {
 }
 
 // What an accepted call did.
-fn tell(
+fn tell(system: &System, 
     kind: u8,
     pairs: &[[u32; 2]],
-    answer: Answer,
+    totals: Totals,
     calendar: &[u8],
     before: &[u8],
     after: &[u8],
     length: usize,
 ) -> i32 {
-    let mut out = io::large_buffer();
+    let mut out = system::large_buffer();
     let pair = first(pairs);
     if kind == ANNOUNCE {
-        let waiting = answer.first as u32;
-        let end = report::announced(&mut out, 0, calendar, before, pair[0], pair[1], waiting);
-        return tell_moved(&out, end);
+        let end = report::announced(&mut out, 0, calendar, before, pair[0], pair[1], totals.added);
+        return tell_moved(system, &out, end);
     }
     let at = report::changes(
         &mut out,
@@ -94,34 +93,34 @@ fn tell(
         calendar,
         before,
         after,
-        totals_of(answer),
+        totals,
         pair[1],
     );
-    let end = put_file(&mut out, at, after, length);
-    tell_moved(&out, end)
+    let end = put_file(system, &mut out, at, after, length);
+    tell_moved(system, &out, end)
 }
 
 // Only a start may do without a register file: there is none before the first.
-fn load_register(kind: u8, path: &[u8], register: &mut [u8]) -> bool {
-    let loaded = files::load(path, register);
+fn load_register(system: &System, kind: u8, path: &[u8], register: &mut [u8]) -> bool {
+    let loaded = files::load(system, path, register);
     if let Loaded::Missing = loaded {
         if kind == START {
             return true;
         }
-        files::complain(
+        files::complain(system, 
             path,
             b"there is no such register: look at the name
   a lost one is made again by its journal: sindhopul replay CALENDAR JOURNAL REGISTER",
         );
         return false;
     }
-    terminal::is_whole(path, register, loaded)
+    terminal::is_whole(system, path, register, loaded)
 }
 
 // A close that was written without a point is asked about: it is in hundredths.
-fn ask_point(close: u32) {
-    let mut word = io::buffer();
-    let n = commands::word(5, &mut word);
+fn ask_point(system: &System, close: u32) {
+    let mut word = system::buffer();
+    let n = commands::word(system, 5, &mut word);
     let mut out = [0u8; 160];
     let end = phrases::fill(
         &mut out,
@@ -129,35 +128,35 @@ fn ask_point(close: u32) {
         b"has no point and was read as %c\n  if that is the close, write %c, or add --yes",
         [close, close, 0, 0, 0, 0],
     );
-    files::complain(text::part(&word, 0, n), text::part(&out, 0, end));
+    files::complain(system, text::part(&word, 0, n), text::part(&out, 0, end));
 }
 
 // A close outside the nearest month's ladder is asked about.
-fn ask_far(close: u32, added: u16, before: &[u8], after: &[u8]) {
-    let mut out = io::buffer();
+fn ask_far(system: &System, close: u32, added: u16, before: &[u8], after: &[u8]) {
+    let mut out = system::buffer();
     let end = report::far(&mut out, 0, before, after, close, added as u32);
-    files::complain(b"the close", text::part(&out, 0, end));
+    files::complain(system, b"the close", text::part(&out, 0, end));
 }
 
 // Whether a start or a session asks for a yes before it is carried out: then that is told.
-fn asks(kind: u8, close: u32, added: u16, before: &[u8], after: &[u8]) -> bool {
-    if kind == ANNOUNCE || commands::has(YES) {
+fn asks(system: &System, kind: u8, close: u32, added: u16, before: &[u8], after: &[u8]) -> bool {
+    if kind == ANNOUNCE || commands::has(system, YES) {
         return false;
     }
     if report::is_far(before, after, close) {
-        ask_far(close, added, before, after);
+        ask_far(system, close, added, before, after);
         return true;
     }
-    if terminal::has_point(5) {
+    if terminal::has_point(system, 5) {
         return false;
     }
-    ask_point(close);
+    ask_point(system, close);
     true
 }
 
 // Keeps an accepted call whose new files are saved, and puts them in place. The journal has the line before the register has the
 // call: a run that is cut off between leaves a line that the same command, run again, finds there.
-fn carry_out(
+fn carry_out(system: &System, 
     kept: Kept,
     kind: u8,
     pairs: &[[u32; 2]],
@@ -165,15 +164,15 @@ fn carry_out(
     beside: &[u8],
     file_beside: &[u8],
 ) -> Installed {
-    if !keeping::record(kept, kind, pairs, answer) {
-        filing::discard(beside, file_beside);
+    if !keeping::record(system, kept, kind, pairs, answer) {
+        filing::discard(system, beside, file_beside);
         return Installed::Failed;
     }
-    filing::install(beside, file_beside)
+    filing::install(system, beside, file_beside)
 }
 
 // Keeps a refused call, gives the locks back and tells the refusal.
-fn turn_down(
+fn turn_down(system: &System, 
     locks: Locks,
     kept: Kept,
     kind: u8,
@@ -184,15 +183,17 @@ fn turn_down(
     calendar: &[u8],
     register: &[u8],
 ) -> i32 {
-    let is_kept = keeping::record(kept, kind, pairs, answer);
-    filing::release(locks, beside, file_beside);
+    let number = answer.number;
+    let detail = answer.first;
+    let is_kept = keeping::record(system, kept, kind, pairs, answer);
+    filing::release(system, locks, beside, file_beside);
     if is_kept {
         let pair = first(pairs);
-        return refuse(
+        return refuse(system, 
             calendar,
             register,
-            answer.number,
-            answer.first,
+            number,
+            detail,
             pair[0],
             pair[1],
         );
@@ -209,7 +210,7 @@ fn is_kept(kept: Kept) -> bool {
 }
 
 // An accepted call: asked about where it may be a slip, carried out, told.
-fn accept(
+fn accept(system: &System, 
     locks: Locks,
     kept: Kept,
     kind: u8,
@@ -222,24 +223,25 @@ fn accept(
     after: &[u8],
 ) -> i32 {
     let pair = first(pairs);
-    if !is_kept(kept) && asks(kind, pair[1], answer.first, before, after) {
-        filing::release(locks, beside, file_beside);
+    if !is_kept(kept) && asks(system, kind, pair[1], answer.first, before, after) {
+        filing::release(system, locks, beside, file_beside);
         return TROUBLE;
     }
-    let saved = filing::save(locks, beside, file_beside, calendar, after);
+    let saved = filing::save(system, locks, beside, file_beside, calendar, after);
     let Saved::Bytes(length) = saved else {
         return TROUBLE;
     };
-    let installed = carry_out(kept, kind, pairs, answer, beside, file_beside);
+    let totals = totals_of(&answer);
+    let installed = carry_out(system, kept, kind, pairs, answer, beside, file_beside);
     match installed {
-        Installed::Done => tell(kind, pairs, answer, calendar, before, after, length),
+        Installed::Done => tell(system, kind, pairs, totals, calendar, before, after, length),
         Installed::Unsynced => TROUBLE,
         Installed::Failed => TROUBLE,
     }
 }
 
 // A call that was answered: kept in the journal, if one is asked for and belongs to the register.
-fn settle(
+fn settle(system: &System, 
     locks: Locks,
     kind: u8,
     pairs: &[[u32; 2]],
@@ -251,13 +253,13 @@ fn settle(
     after: &[u8],
     room: &mut [u8],
 ) -> i32 {
-    let kept = keeping::look(calendar, before, kind, pairs, answer.number, room);
+    let kept = keeping::look(system, calendar, before, kind, pairs, answer.number, room);
     if let Kept::Bad = kept {
-        filing::release(locks, beside, file_beside);
+        filing::release(system, locks, beside, file_beside);
         return TROUBLE;
     }
     if answer.number != 0 {
-        return turn_down(
+        return turn_down(system, 
             locks,
             kept,
             kind,
@@ -269,7 +271,7 @@ fn settle(
             before,
         );
     }
-    accept(
+    accept(system, 
         locks,
         kept,
         kind,
@@ -285,7 +287,7 @@ fn settle(
 
 // The call on the register that this run has locked. A calendar or a register that cannot be used says nothing of the call,
 // so that it is refused and not kept.
-fn call_locked(
+fn call_locked(system: &System, 
     locks: Locks,
     kind: u8,
     pairs: &[[u32; 2]],
@@ -295,18 +297,18 @@ fn call_locked(
     room: &mut [u8],
 ) -> i32 {
     let mut register = space::register();
-    if !load_register(kind, files::replaced_by(beside), &mut register) {
-        filing::release(locks, beside, file_beside);
+    if !load_register(system, kind, files::replaced_by(beside), &mut register) {
+        filing::release(system, locks, beside, file_beside);
         return TROUBLE;
     }
     let before = register;
     let called = calling::call_by_kind(calendar, &mut register, kind, pairs);
     let Called::Answered(answer) = called else {
-        filing::release(locks, beside, file_beside);
-        return not_called();
+        filing::release(system, locks, beside, file_beside);
+        return not_called(system);
     };
     if 0 < answer.number && answer.number <= causes::REGISTER_FORM {
-        return turn_down(
+        return turn_down(system, 
             locks,
             Kept::Unasked,
             kind,
@@ -318,7 +320,7 @@ fn call_locked(
             &before,
         );
     }
-    settle(
+    settle(system, 
         locks,
         kind,
         pairs,
@@ -332,7 +334,7 @@ fn call_locked(
     )
 }
 
-fn lock_and_call(
+fn lock_and_call(system: &System, 
     kind: u8,
     pairs: &[[u32; 2]],
     calendar: &[u8],
@@ -340,59 +342,58 @@ fn lock_and_call(
     file_beside: &[u8],
     room: &mut [u8],
 ) -> i32 {
-    let locks = filing::lock(beside, file_beside);
-    if locks.register < 0 {
+    let Some(locks) = filing::lock(system, beside, file_beside) else {
         return TROUBLE;
-    }
-    call_locked(locks, kind, pairs, calendar, beside, file_beside, room)
+    };
+    call_locked(system, locks, kind, pairs, calendar, beside, file_beside, room)
 }
 
 // The day or month of a call.
-fn time_of(kind: u8) -> Parsed {
+fn time_of(system: &System, kind: u8) -> Parsed {
     if kind == ANNOUNCE {
-        return terminal::number(4, terminal::MONTH);
+        return terminal::number(system, 4, terminal::MONTH);
     }
-    terminal::number(4, terminal::DAY)
+    terminal::number(system, 4, terminal::DAY)
 }
 
 // Its close or price.
-fn level_of(kind: u8) -> Parsed {
+fn level_of(system: &System, kind: u8) -> Parsed {
     if kind == ANNOUNCE {
-        return terminal::number(5, terminal::PRICE);
+        return terminal::number(system, 5, terminal::PRICE);
     }
-    terminal::number(5, terminal::CLOSE)
+    terminal::number(system, 5, terminal::CLOSE)
 }
 
 // The name of the new register, put into the buffer; 0 where that is trouble, which is told.
-fn put_beside(beside: &mut [u8]) -> usize {
-    let mut path = io::buffer();
-    let end = terminal::followed(3, &mut path);
+fn put_beside(system: &System, beside: &mut [u8]) -> usize {
+    let mut path = system::buffer();
+    let end = terminal::followed(system, 3, &mut path);
     if end == 0 {
         return 0;
     }
-    files::beside(text::part(&path, 0, end), beside)
+    files::beside(system, text::part(&path, 0, end), beside)
 }
 
 // `room` is for the text of a journal.
-pub fn make(kind: u8, calendar: &[u8], room: &mut [u8]) -> i32 {
-    let Parsed::Number(x) = time_of(kind) else {
+pub fn make(system: &System, kind: u8, calendar: &[u8], room: &mut [u8]) -> i32 {
+    let Parsed::Number(x) = time_of(system, kind) else {
         return TROUBLE;
     };
-    let Parsed::Number(y) = level_of(kind) else {
+    let Parsed::Number(y) = level_of(system, kind) else {
         return TROUBLE;
     };
-    let mut beside = io::buffer();
-    let end = put_beside(&mut beside);
+    let mut beside = system::buffer();
+    let end = put_beside(system, &mut beside);
     if end == 0 {
         return TROUBLE;
     }
-    let mut file_beside = io::buffer();
-    let file_end = filing::named(&mut file_beside);
-    if file_end == 0 && commands::has(WITH_FILE) {
+    let mut file_beside = system::buffer();
+    let file_end = filing::named(system, &mut file_beside);
+    if file_end == 0 && commands::has(system, WITH_FILE) {
         return TROUBLE;
     }
     let pairs = [[x, y]];
-    lock_and_call(
+    lock_and_call(system, 
         kind,
         &pairs,
         calendar,
@@ -403,12 +404,12 @@ pub fn make(kind: u8, calendar: &[u8], room: &mut [u8]) -> i32 {
 }
 
 // Whether a close may be a slip: outside the nearest month's ladder, or written without a point.
-fn may_slip(close: u32, before: &[u8], after: &[u8]) -> bool {
-    !terminal::has_point(5) || report::is_far(before, after, close)
+fn may_slip(system: &System, close: u32, before: &[u8], after: &[u8]) -> bool {
+    !terminal::has_point(system, 5) || report::is_far(before, after, close)
 }
 
-fn foresee_asking(out: &mut [u8], at: usize, close: u32, before: &[u8], after: &[u8]) -> usize {
-    if may_slip(close, before, after) {
+fn foresee_asking(system: &System, out: &mut [u8], at: usize, close: u32, before: &[u8], after: &[u8]) -> usize {
+    if may_slip(system, close, before, after) {
         return text::put(
             out,
             at,
@@ -419,31 +420,32 @@ fn foresee_asking(out: &mut [u8], at: usize, close: u32, before: &[u8], after: &
 }
 
 // What the session would answer, and each row that it would add.
-fn foresee(day: u32, close: u32, calendar: &[u8], before: &[u8], after: &mut [u8]) -> i32 {
+fn foresee(system: &System, day: u32, close: u32, calendar: &[u8], before: &[u8], after: &mut [u8]) -> i32 {
     let pairs = [[day, close]];
     let called = calling::call_by_kind(calendar, after, SESSION, &pairs);
     let Called::Answered(answer) = called else {
-        return not_called();
+        return not_called(system);
     };
     if answer.number != 0 {
-        return refuse(calendar, before, answer.number, answer.first, day, close);
+        return refuse(system, calendar, before, answer.number, answer.first, day, close);
     }
     let mut out = space::output();
-    let totals = totals_of(answer);
+    let totals = totals_of(&answer);
+    let added = totals.added;
     let at = report::changes(&mut out, 0, calendar, before, after, totals, close);
-    let at = report::added(&mut out, at, after, totals.added);
-    let end = foresee_asking(&mut out, at, close, before, after);
-    say(STDOUT_FILENO, &out, end, DONE)
+    let at = report::added(&mut out, at, after, added);
+    let end = foresee_asking(system, &mut out, at, close, before, after);
+    say(system, Stream::Output, &out, end, DONE)
 }
 
-pub fn preview(calendar: &[u8], register: &[u8]) -> i32 {
-    let Parsed::Number(day) = time_of(SESSION) else {
+pub fn preview(system: &System, calendar: &[u8], register: &[u8]) -> i32 {
+    let Parsed::Number(day) = time_of(system, SESSION) else {
         return TROUBLE;
     };
-    let Parsed::Number(close) = level_of(SESSION) else {
+    let Parsed::Number(close) = level_of(system, SESSION) else {
         return TROUBLE;
     };
     let mut after = space::register();
     text::put(&mut after, 0, register);
-    foresee(day, close, calendar, register, &mut after)
+    foresee(system, day, close, calendar, register, &mut after)
 }

@@ -5,13 +5,14 @@
 // work. The names are those of the new files; that of the file is empty where none is asked for.
 use commands::WITH_FILE;
 use files::Installed;
+use system::{File, System};
 
 // The new files of a run, open.
 #[derive(Drop)]
 pub struct Locks {
-    // Below zero where the files could not be had; told already.
-    pub register: i32,
-    pub file: i32,
+    pub register: File,
+    // None where no file of series is asked for.
+    pub file: Option<File>,
 }
 
 #[derive(Drop)]
@@ -24,85 +25,93 @@ pub enum Saved {
 
 // Puts the name of the new file beside the one that --file names into the buffer and answers its length: 0 where none is asked
 // for, and where it cannot be had, which is told.
-pub fn named(beside: &mut [u8]) -> usize {
-    let mut word = io::buffer();
-    let n = commands::value(WITH_FILE, &mut word);
+pub fn named(system: &System, beside: &mut [u8]) -> usize {
+    let mut word = system::buffer();
+    let n = commands::value(system, WITH_FILE, &mut word);
     if n == 0 {
         return 0;
     }
-    let mut path = io::buffer();
-    let end = files::follow(text::part(&word, 0, n), &mut path);
+    let mut path = system::buffer();
+    let end = files::follow(system, text::part(&word, 0, n), &mut path);
     if end == 0 {
         return 0;
     }
-    files::beside(text::part(&path, 0, end), beside)
+    files::beside(system, text::part(&path, 0, end), beside)
 }
 
-fn lock_file(register: i32, beside: &[u8], file_beside: &[u8]) -> Locks {
-    let file = files::lock(files::replaced_by(file_beside), file_beside);
-    if file < 0 {
-        files::release(register, beside);
-        return Locks {
-            register: -1,
-            file: -1,
-        };
-    }
-    Locks {
+fn lock_file(system: &System, register: File, beside: &[u8], file_beside: &[u8]) -> Option<Locks> {
+    let Some(file) = files::lock(system, files::replaced_by(file_beside), file_beside) else {
+        files::release(system, register, beside);
+        return None;
+    };
+    Some(Locks {
         register: register,
-        file: file,
-    }
+        file: Some(file),
+    })
 }
 
-// Makes both new files, or neither.
-pub fn lock(beside: &[u8], file_beside: &[u8]) -> Locks {
-    let register = files::lock_first(files::replaced_by(beside), beside, file_beside);
-    if register < 0 || file_beside.len() == 0 {
-        return Locks {
+// Makes both new files, or neither; none where they could not be had, which is told.
+pub fn lock(system: &System, beside: &[u8], file_beside: &[u8]) -> Option<Locks> {
+    let Some(register) = files::lock_first(
+        system,
+        files::replaced_by(beside),
+        beside,
+        file_beside,
+    ) else {
+        return None;
+    };
+    if file_beside.len() == 0 {
+        return Some(Locks {
             register: register,
-            file: -1,
-        };
+            file: None,
+        });
     }
-    lock_file(register, beside, file_beside)
+    lock_file(system, register, beside, file_beside)
 }
 
 // Takes both away again while they are open.
-pub fn release(locks: Locks, beside: &[u8], file_beside: &[u8]) {
-    if file_beside.len() != 0 {
-        files::release(locks.file, file_beside);
+pub fn release(system: &System, locks: Locks, beside: &[u8], file_beside: &[u8]) {
+    let Locks { register, file } = locks;
+    if let Some(file) = file {
+        files::release(system, file, file_beside);
     }
-    files::release(locks.register, beside);
+    files::release(system, register, beside);
 }
 
 // The same when they are written.
-pub fn discard(beside: &[u8], file_beside: &[u8]) {
+pub fn discard(system: &System, beside: &[u8], file_beside: &[u8]) {
     if file_beside.len() != 0 {
-        files::discard(file_beside);
+        files::discard(system, file_beside);
     }
-    files::discard(beside);
+    files::discard(system, beside);
 }
 
 fn save_both(
-    locks: Locks,
+    system: &System,
+    opened: File,
+    opened_file: File,
     beside: &[u8],
     file_beside: &[u8],
     register: &[u8],
     file: &[u8],
 ) -> Saved {
-    if !files::save(locks.register, files::replaced_by(beside), beside, register) {
-        files::release(locks.file, file_beside);
+    if !files::save(system, opened, files::replaced_by(beside), beside, register) {
+        files::release(system, opened_file, file_beside);
         return Saved::Failed;
     }
     let path = files::replaced_by(file_beside);
-    if files::save(locks.file, path, file_beside, file) {
+    if files::save(system, opened_file, path, file_beside, file) {
         return Saved::Bytes(file.len());
     }
-    files::discard(beside);
+    files::discard(system, beside);
     Saved::Failed
 }
 
 // With the file of the register's new series, which every register that a call left has.
 fn save_with_file(
-    locks: Locks,
+    system: &System,
+    opened: File,
+    opened_file: File,
     beside: &[u8],
     file_beside: &[u8],
     calendar: &[u8],
@@ -111,26 +120,40 @@ fn save_with_file(
     let mut file = space::series();
     let written = loader::write(calendar, register, &mut file);
     if written.number != 0 {
-        release(locks, beside, file_beside);
-        files::complain(b"the file of series", b"it could not be made");
+        files::release(system, opened_file, file_beside);
+        files::release(system, opened, beside);
+        files::complain(system, b"the file of series", b"it could not be made");
         return Saved::Failed;
     }
     let bytes = text::part(&file, 0, written.length as usize);
-    save_both(locks, beside, file_beside, register, bytes)
+    save_both(system, opened, opened_file, beside, file_beside, register, bytes)
 }
 
 // Writes both new files and brings them to the disk.
 pub fn save(
+    system: &System,
     locks: Locks,
     beside: &[u8],
     file_beside: &[u8],
     calendar: &[u8],
     register: &[u8],
 ) -> Saved {
-    if file_beside.len() != 0 {
-        return save_with_file(locks, beside, file_beside, calendar, register);
+    let Locks {
+        register: opened,
+        file,
+    } = locks;
+    if let Some(opened_file) = file {
+        return save_with_file(
+            system,
+            opened,
+            opened_file,
+            beside,
+            file_beside,
+            calendar,
+            register,
+        );
     }
-    if files::save(locks.register, files::replaced_by(beside), beside, register) {
+    if files::save(system, opened, files::replaced_by(beside), beside, register) {
         return Saved::Bytes(0);
     }
     Saved::Failed
@@ -144,23 +167,23 @@ fn settled(file: Installed, register: Installed) -> Installed {
     file
 }
 
-fn install_both(beside: &[u8], file_beside: &[u8]) -> Installed {
+fn install_both(system: &System, beside: &[u8], file_beside: &[u8]) -> Installed {
     let path = files::replaced_by(beside);
     let file = files::replaced_by(file_beside);
-    if !files::put_in_place(file, file_beside, b"") {
-        files::discard(beside);
+    if !files::put_in_place(system, file, file_beside, b"") {
+        files::discard(system, beside);
         return Installed::Failed;
     }
-    if !files::put_in_place(path, beside, b"the file of series did move; ") {
+    if !files::put_in_place(system, path, beside, b"the file of series did move; ") {
         return Installed::Failed;
     }
-    settled(files::settle(file), files::settle(path))
+    settled(files::settle(system, file), files::settle(system, path))
 }
 
 // Puts both new files in place.
-pub fn install(beside: &[u8], file_beside: &[u8]) -> Installed {
+pub fn install(system: &System, beside: &[u8], file_beside: &[u8]) -> Installed {
     if file_beside.len() == 0 {
-        return files::install(files::replaced_by(beside), beside, b"");
+        return files::install(system, files::replaced_by(beside), beside, b"");
     }
-    install_both(beside, file_beside)
+    install_both(system, beside, file_beside)
 }

@@ -6,6 +6,7 @@ use commands::{
 };
 use fields::{CONTENT, DAY_FIELD, DAY_LENGTH, DAY_TAG, SERIES_FIELD};
 use layout::REGISTER_LENGTH;
+use system::System;
 use text::Parsed;
 
 // No file has the name, or it is no regular one.
@@ -89,17 +90,17 @@ fn kind_by_length(length: i64) -> u8 {
 
 // The kind of the file of this name, in the table's letters: NO_FILE where it is of none, NOTHING where there is none, and
 // UNKNOWN where the system could not tell, which is told.
-pub fn kind_of(name: &[u8]) -> u8 {
-    let file = attributes::of(name);
+pub fn kind_of(system: &System, name: &[u8]) -> u8 {
+    let file = attributes::of(system, name);
     if !file.is_known {
-        files::fail(name);
+        files::fail(system, name);
         return UNKNOWN;
     }
     if !attributes::is_regular(file) {
         return NOTHING;
     }
-    let mut space = io::buffer();
-    let n = files::peek(name, &mut space);
+    let mut space = system::buffer();
+    let n = files::peek(system, name, &mut space);
     let begun = kind_by_beginning(text::part(&space, 0, n));
     if begun != NO_FILE {
         return begun;

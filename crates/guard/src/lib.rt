@@ -7,6 +7,7 @@ mod slots;
 
 use commands::{NO_FILE, NONE, READ, WRITTEN};
 use slots::{END, FIRST};
+use system::System;
 
 // A dash stands for a standard stream; where none may stand the words were refused.
 fn is_stream(name: &[u8]) -> bool {
@@ -36,16 +37,16 @@ fn put_kinds(out: &mut [u8], is: u8, wanted: u8) -> usize {
     put_known(out, is, wanted)
 }
 
-fn complain_kind(name: &[u8], is: u8, wanted: u8) {
-    let mut out = io::buffer();
+fn complain_kind(system: &System, name: &[u8], is: u8, wanted: u8) {
+    let mut out = system::buffer();
     let end = put_kinds(&mut out, is, wanted);
-    files::complain(name, text::part(&out, 0, end));
+    files::complain(system, name, text::part(&out, 0, end));
 }
 
 // Whether a file, if it is there, is of the kind that is wanted. One that is only read may be of no kind that is known:
 // whoever reads it tells what is the matter. A journal may be an empty one: a start that was cut off leaves it.
-fn is_of_kind(name: &[u8], wanted: u8, access: u8) -> bool {
-    let is = kinds::kind_of(name);
+fn is_of_kind(system: &System, name: &[u8], wanted: u8, access: u8) -> bool {
+    let is = kinds::kind_of(system, name);
     if is == kinds::UNKNOWN {
         return false;
     }
@@ -55,12 +56,12 @@ fn is_of_kind(name: &[u8], wanted: u8, access: u8) -> bool {
     if is == NO_FILE && access != WRITTEN {
         return true;
     }
-    complain_kind(name, is, wanted);
+    complain_kind(system, name, is, wanted);
     false
 }
 
-fn complain_same(name: &[u8]) {
-    files::complain(
+fn complain_same(system: &System, name: &[u8]) {
+    files::complain(system, 
         name,
         b"is also another file of this command, which would be overwritten: name another one",
     );
@@ -76,53 +77,53 @@ enum Meeting {
     Unknown,
 }
 
-fn meet(name: &[u8], other: &[u8]) -> Meeting {
-    let mut real = io::buffer();
-    let mut new = io::buffer();
-    let end = files::follow(name, &mut real);
+fn meet(system: &System, name: &[u8], other: &[u8]) -> Meeting {
+    let mut real = system::buffer();
+    let mut new = system::buffer();
+    let end = files::follow(system, name, &mut real);
     if end == 0 {
         return Meeting::Unknown;
     }
-    let new_end = files::beside(text::part(&real, 0, end), &mut new);
+    let new_end = files::beside(system, text::part(&real, 0, end), &mut new);
     if new_end == 0 {
         return Meeting::Unknown;
     }
-    if files::is_same(name, other) || files::is_same(text::part(&new, 0, new_end), other) {
+    if files::is_same(system, name, other) || files::is_same(system, text::part(&new, 0, new_end), other) {
         return Meeting::Same;
     }
     Meeting::Apart
 }
 
 // Whether a file that is written is apart from another file of the command.
-fn is_apart(command: u32, name: &[u8], other: u32) -> bool {
-    if slots::access(command, other) == NONE {
+fn is_apart(system: &System, command: u32, name: &[u8], other: u32) -> bool {
+    if slots::access(system, command, other) == NONE {
         return true;
     }
-    let mut space = io::buffer();
-    let n = slots::name(other, &mut space);
+    let mut space = system::buffer();
+    let n = slots::name(system, other, &mut space);
     let other = text::part(&space, 0, n);
     if n == 0 || is_stream(other) {
         return true;
     }
-    if !attributes::of(other).is_known {
-        files::fail(other);
+    if !attributes::of(system, other).is_known {
+        files::fail(system, other);
         return false;
     }
-    let meeting = meet(name, other);
+    let meeting = meet(system, name, other);
     match meeting {
         Meeting::Apart => true,
         Meeting::Same => {
-            complain_same(name);
+            complain_same(system, name);
             false
         }
         Meeting::Unknown => false,
     }
 }
 
-fn is_apart_from_all(command: u32, name: &[u8], slot: u32) -> bool {
+fn is_apart_from_all(system: &System, command: u32, name: &[u8], slot: u32) -> bool {
     let mut other = FIRST;
     while other < END {
-        if other != slot && !is_apart(command, name, other) {
+        if other != slot && !is_apart(system, command, name, other) {
             return false;
         }
         other += 1;
@@ -130,35 +131,35 @@ fn is_apart_from_all(command: u32, name: &[u8], slot: u32) -> bool {
     true
 }
 
-fn is_fit_file(command: u32, slot: u32, name: &[u8], access: u8) -> bool {
+fn is_fit_file(system: &System, command: u32, slot: u32, name: &[u8], access: u8) -> bool {
     if access != READ {
-        if !files::is_destination(name, attributes::of(name)) {
+        if !files::is_destination(system, name, attributes::of(system, name)) {
             return false;
         }
-        if !is_apart_from_all(command, name, slot) {
+        if !is_apart_from_all(system, command, name, slot) {
             return false;
         }
     }
-    is_of_kind(name, slots::kind(command, slot), access)
+    is_of_kind(system, name, slots::kind(command, slot), access)
 }
 
 // Whether the file of a slot may be used as the command wants to.
-fn is_fit(command: u32, slot: u32) -> bool {
-    let access = slots::access(command, slot);
-    let mut space = io::buffer();
-    let n = slots::name(slot, &mut space);
+fn is_fit(system: &System, command: u32, slot: u32) -> bool {
+    let access = slots::access(system, command, slot);
+    let mut space = system::buffer();
+    let n = slots::name(system, slot, &mut space);
     if access == NONE || n == 0 {
         return true;
     }
     let name = text::part(&space, 0, n);
-    is_stream(name) || is_fit_file(command, slot, name, access)
+    is_stream(name) || is_fit_file(system, command, slot, name, access)
 }
 
 // Whether all files of the command may be used as it wants to; else that is told.
-pub fn is_clear(command: u32) -> bool {
+pub fn is_clear(system: &System, command: u32) -> bool {
     let mut slot = FIRST;
     while slot < END {
-        if !is_fit(command, slot) {
+        if !is_fit(system, command, slot) {
             return false;
         }
         slot += 1;

@@ -1,5 +1,6 @@
 // The files of a command, one a slot: its words from the second on, and behind them those that its options name.
 use commands::{JOURNAL, NONE, WITH_FILE};
+use system::System;
 
 pub const FIRST: u32 = 2;
 
@@ -18,24 +19,24 @@ pub fn kind(command: u32, slot: u32) -> u8 {
     commands::kind(command, slot as usize)
 }
 
-pub fn access(command: u32, slot: u32) -> u8 {
+pub fn access(system: &System, command: u32, slot: u32) -> u8 {
     if OPTIONS <= slot {
-        return option_access(option(slot));
+        return option_access(system, option(slot));
     }
     commands::access(command, slot as usize)
 }
 
-fn option_access(option: u8) -> u8 {
-    if commands::has(option) {
+fn option_access(system: &System, option: u8) -> u8 {
+    if commands::has(system, option) {
         return commands::option_access(option);
     }
     NONE
 }
 
 // Puts the file's name at the start of the buffer and answers its length.
-pub fn name(slot: u32, buffer: &mut [u8]) -> usize {
+pub fn name(system: &System, slot: u32, buffer: &mut [u8]) -> usize {
     if OPTIONS <= slot {
-        return commands::value(option(slot), buffer);
+        return commands::value(system, option(slot), buffer);
     }
-    commands::word(slot as usize, buffer)
+    commands::word(system, slot as usize, buffer)
 }

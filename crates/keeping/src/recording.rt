@@ -4,9 +4,10 @@ use calls::{Answer, START};
 use commands::JOURNAL;
 use files::Loaded;
 use matching::Found;
+use system::System;
 
 // How a journal is for a call that is to be kept in it.
-#[derive(Drop)]
+#[derive(Clone, Copy)]
 pub enum Kept {
     // No journal is asked for.
     Unasked,
@@ -28,7 +29,7 @@ fn is_last(found: Found, kind: u8, pairs: &[[u32; 2]]) -> bool {
 }
 
 // The journal is ahead of the register by its last call: this one, or another that is to be completed first.
-fn ahead(
+fn ahead(system: &System, 
     path: &[u8],
     text: &[u8],
     found: Found,
@@ -37,18 +38,18 @@ fn ahead(
     number: u16,
 ) -> Kept {
     if number == 0 && is_last(found, kind, pairs) {
-        files::note(
+        files::note(system, 
             path,
             b"has this call already, from a run that was cut off before it wrote the register",
         );
         return Kept::Already;
     }
-    complain_ahead(path, lines::line(text, found.line));
+    complain_ahead(system, path, lines::line(text, found.line));
     Kept::Bad
 }
 
 // The text has `size` bytes in the file, and a line feed more where that was lacking.
-fn judged(
+fn judged(system: &System, 
     path: &[u8],
     text: &[u8],
     size: usize,
@@ -58,7 +59,7 @@ fn judged(
     pairs: &[[u32; 2]],
     number: u16,
 ) -> Kept {
-    let standing = judge(path, text, calendar, register, kind == START);
+    let standing = judge(system, path, text, calendar, register, kind == START);
     match standing {
         Standing::InStep(_found) => {
             if size < text.len() {
@@ -66,17 +67,17 @@ fn judged(
             }
             Kept::Behind(journal::whole(text).len(), size, false)
         }
-        Standing::Ahead(found) => ahead(path, text, found, kind, pairs, number),
+        Standing::Ahead(found) => ahead(system, path, text, found, kind, pairs, number),
         Standing::Bad => Kept::Bad,
     }
 }
 
 // Only a start may do without its journal: it makes one.
-fn missing(path: &[u8], calendar: &[u8], register: &[u8], kind: u8, pairs: &[[u32; 2]]) -> Kept {
+fn missing(system: &System, path: &[u8], calendar: &[u8], register: &[u8], kind: u8, pairs: &[[u32; 2]]) -> Kept {
     if kind == START {
-        return judged(path, b"", 0, calendar, register, kind, pairs, 0);
+        return judged(system, path, b"", 0, calendar, register, kind, pairs, 0);
     }
-    files::complain(
+    files::complain(system, 
         path,
         b"there is no such journal: look at the name
   only start makes one; a lost one comes from a backup, or its calls are written by hand, one a line",
@@ -87,7 +88,7 @@ fn missing(path: &[u8], calendar: &[u8], register: &[u8], kind: u8, pairs: &[[u3
 // Room for a line more.
 const LINE: usize = 128;
 
-fn look_at(
+fn look_at(system: &System, 
     path: &[u8],
     size: usize,
     calendar: &[u8],
@@ -98,11 +99,11 @@ fn look_at(
     room: &mut [u8],
 ) -> Kept {
     if room.len() <= LINE || room.len() - LINE < size {
-        files::complain(path, b"it is full: a journal has 4,194,304 bytes at most");
+        files::complain(system, path, b"it is full: a journal has 4,194,304 bytes at most");
         return Kept::Bad;
     }
     let length = journal::end_line(room, size);
-    judged(
+    judged(system, 
         path,
         text::part(room, 0, length),
         size,
@@ -114,7 +115,7 @@ fn look_at(
     )
 }
 
-fn look_in(
+fn look_in(system: &System, 
     path: &[u8],
     calendar: &[u8],
     register: &[u8],
@@ -123,17 +124,17 @@ fn look_in(
     number: u16,
     room: &mut [u8],
 ) -> Kept {
-    let loaded = files::load(path, room);
+    let loaded = files::load(system, path, room);
     match loaded {
-        Loaded::Bytes(n) => look_at(path, n, calendar, register, kind, pairs, number, room),
-        Loaded::Missing => missing(path, calendar, register, kind, pairs),
+        Loaded::Bytes(n) => look_at(system, path, n, calendar, register, kind, pairs, number, room),
+        Loaded::Missing => missing(system, path, calendar, register, kind, pairs),
         Loaded::Failed => Kept::Bad,
     }
 }
 
 // Looks whether the journal that is asked for belongs to the register, and where the line of a call with this number goes.
 // `room` is for the journal's text.
-pub fn look(
+pub fn look(system: &System, 
     calendar: &[u8],
     register: &[u8],
     kind: u8,
@@ -141,12 +142,12 @@ pub fn look(
     number: u16,
     room: &mut [u8],
 ) -> Kept {
-    if !commands::has(JOURNAL) {
+    if !commands::has(system, JOURNAL) {
         return Kept::Unasked;
     }
-    let mut path = io::buffer();
-    let n = commands::value(JOURNAL, &mut path);
-    look_in(
+    let mut path = system::buffer();
+    let n = commands::value(system, JOURNAL, &mut path);
+    look_in(system, 
         text::part(&path, 0, n),
         calendar,
         register,
@@ -157,7 +158,7 @@ pub fn look(
     )
 }
 
-fn write(
+fn write(system: &System, 
     kind: u8,
     pairs: &[[u32; 2]],
     answer: Answer,
@@ -165,13 +166,13 @@ fn write(
     size: usize,
     lacks_feed: bool,
 ) -> bool {
-    let mut path = io::buffer();
-    let n = commands::value(JOURNAL, &mut path);
+    let mut path = system::buffer();
+    let n = commands::value(system, JOURNAL, &mut path);
     let mut line = [0u8; LINE];
     let feed = if lacks_feed { 1 } else { 0 };
     let at = text::put(&mut line, 0, text::part(b"\n", 0, feed));
     let end = journal::entry(&mut line, at, kind, pairs, answer);
-    files::keep_line(
+    files::keep_line(system, 
         text::part(&path, 0, n),
         whole,
         size,
@@ -180,10 +181,10 @@ fn write(
 }
 
 // Keeps a call where `look` found its place.
-pub fn record(kept: Kept, kind: u8, pairs: &[[u32; 2]], answer: Answer) -> bool {
+pub fn record(system: &System, kept: Kept, kind: u8, pairs: &[[u32; 2]], answer: Answer) -> bool {
     match kept {
         Kept::Behind(whole, size, lacks_feed) => {
-            write(kind, pairs, answer, whole, size, lacks_feed)
+            write(system, kind, pairs, answer, whole, size, lacks_feed)
         }
         Kept::Bad => false,
         _ => true,

@@ -18,12 +18,13 @@ fn told(out: &mut [u8], at: usize, line: &[u8]) -> usize {
 }
 
 fn answered(out: &mut [u8], at: usize, kind: u8, pairs: &[[u32; 2]], answer: Answer) -> usize {
+    let number = answer.number as u32;
     let mut entry = [0u8; 128];
     let end = journal::entry(&mut entry, 0, kind, pairs, answer);
     let at = put(out, at, b"  its call gives ");
     let at = put(out, at, journal::answer_in(text::part(&entry, 0, end)));
     let at = put(out, at, b": ");
-    let at = in_words(out, at, answer.number as u32);
+    let at = in_words(out, at, number);
     text::put_byte(out, at, b'\n')
 }
 

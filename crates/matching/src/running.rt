@@ -3,7 +3,7 @@ use calls::{Answer, Called, START};
 use journal::Line;
 
 // What was found in a journal that was run. Lines count from 1; 0 stands for none.
-#[derive(Drop)]
+#[derive(Clone, Copy)]
 pub struct Found {
     pub calls: u32,
     // Whether the first call is a start.
@@ -104,13 +104,14 @@ fn answered(
     answer: Answer,
 ) -> Found {
     let pairs = [[x, y]];
+    let number_given = answer.number;
     let found = counted(found, kind);
     let found = if tells(line, kind, &pairs, answer) {
         found
     } else {
         told_otherwise(found, number)
     };
-    if answer.number != 0 {
+    if number_given != 0 {
         return found;
     }
     let found = accepted(found, number, at, kind, x, y);

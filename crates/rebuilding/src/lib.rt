@@ -3,6 +3,7 @@
 
 use journal::{Calls, Reason};
 use replaying::Outcome;
+use system::System;
 
 // The first n pairs, or all where there are fewer.
 fn first_pairs(pool: &[[u32; 2]], n: usize) -> &[[u32; 2]] {
@@ -12,8 +13,8 @@ fn first_pairs(pool: &[[u32; 2]], n: usize) -> &[[u32; 2]] {
     pool
 }
 
-fn not_run(path: &[u8], why: &[u8]) -> bool {
-    files::complain(path, why);
+fn not_run(system: &System, path: &[u8], why: &[u8]) -> bool {
+    files::complain(system, path, why);
     false
 }
 
@@ -34,7 +35,7 @@ fn replay(
     replaying::replay(calendar, kinds, counts, pool, register, &mut numbers[0..n])
 }
 
-fn run_calls(
+fn run_calls(system: &System, 
     path: &[u8],
     calendar: &[u8],
     kinds: &[u8],
@@ -46,25 +47,25 @@ fn run_calls(
     let outcome = replay(calendar, kinds, counts, pool, register, &mut numbers);
     match outcome {
         Outcome::Done => true,
-        Outcome::NotEmpty => not_run(
+        Outcome::NotEmpty => not_run(system, 
             path,
             b"it was not run: the register to begin with is not empty",
         ),
-        Outcome::Malformed => not_run(
+        Outcome::Malformed => not_run(system, 
             path,
             b"it was not run: a call lacks a pair or the room for its number, or is none of the three",
         ),
     }
 }
 
-fn complain_line(path: &[u8], text: &[u8], line: u32, reason: Reason) -> bool {
-    let mut out = io::buffer();
+fn complain_line(system: &System, path: &[u8], text: &[u8], line: u32, reason: Reason) -> bool {
+    let mut out = system::buffer();
     let end = journal::complaint(&mut out, 0, text, line, reason);
-    not_run(path, text::part(&out, 0, end))
+    not_run(system, path, text::part(&out, 0, end))
 }
 
 // Runs the whole lines of a journal from an empty register. Answers false where that cannot be done; then it is told.
-pub fn rebuild(path: &[u8], text: &[u8], calendar: &[u8], register: &mut [u8]) -> bool {
+pub fn rebuild(system: &System, path: &[u8], text: &[u8], calendar: &[u8], register: &mut [u8]) -> bool {
     let mut kinds = space::call_bytes();
     let mut counts = space::call_bytes();
     let mut pool = space::pairs();
@@ -72,7 +73,7 @@ pub fn rebuild(path: &[u8], text: &[u8], calendar: &[u8], register: &mut [u8]) -
     match calls {
         Calls::Taken(taken) => {
             let n = taken.calls;
-            run_calls(
+            run_calls(system, 
                 path,
                 calendar,
                 text::part(&kinds, 0, n),
@@ -81,6 +82,6 @@ pub fn rebuild(path: &[u8], text: &[u8], calendar: &[u8], register: &mut [u8]) -
                 register,
             )
         }
-        Calls::Refused(line, reason) => complain_line(path, text, line, reason),
+        Calls::Refused(line, reason) => complain_line(system, path, text, line, reason),
     }
 }

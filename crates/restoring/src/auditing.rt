@@ -1,6 +1,6 @@
 // A register held against what its journal gives.
-use libc::{STDERR_FILENO, STDOUT_FILENO};
 use matching::Found;
+use system::{Stream, System};
 use terminal::{DONE, REFUSED, TROUBLE, say};
 
 // The journal as a command names it: one that was read from a standard stream has another name, if any.
@@ -12,7 +12,7 @@ fn name_of<'a>(path: &'a [u8], other: &'a [u8]) -> &'a [u8] {
 }
 
 // What is the matter, and the way on.
-fn put_way(
+fn put_way(system: &System, 
     out: &mut [u8],
     at: usize,
     path: &[u8],
@@ -22,10 +22,10 @@ fn put_way(
     register: &[u8],
     found: Found,
 ) -> usize {
-    let mut calendar_name = io::buffer();
-    let c = commands::word(2, &mut calendar_name);
-    let mut register_name = io::buffer();
-    let r = commands::word(4, &mut register_name);
+    let mut calendar_name = system::buffer();
+    let c = commands::word(system, 2, &mut calendar_name);
+    let mut register_name = system::buffer();
+    let r = commands::word(system, 4, &mut register_name);
     if keeping::is_before_last(text, calendar, register, found) {
         return matching::ahead(
             out,
@@ -53,7 +53,7 @@ fn put_way(
     )
 }
 
-fn tell_difference(
+fn tell_difference(system: &System, 
     path: &[u8],
     text: &[u8],
     calendar: &[u8],
@@ -61,7 +61,7 @@ fn tell_difference(
     register: &[u8],
     found: Found,
 ) -> i32 {
-    let mut out = io::large_buffer();
+    let mut out = system::large_buffer();
     let at = text::put(
         &mut out,
         0,
@@ -69,15 +69,15 @@ fn tell_difference(
     );
     let at = audit::difference(&mut out, at, given, register);
     let at = text::put(&mut out, at, b"the journal: ");
-    let at = put_way(&mut out, at, path, text, calendar, given, register, found);
+    let at = put_way(system, &mut out, at, path, text, calendar, given, register, found);
     let end = text::put_byte(&mut out, at, b'\n');
-    say(STDERR_FILENO, &out, end, REFUSED)
+    say(system, Stream::Error, &out, end, REFUSED)
 }
 
 // Holds the register of word 4 against the one that is given.
-pub fn audit(path: &[u8], text: &[u8], calendar: &[u8], given: &[u8], found: Found) -> i32 {
+pub fn audit(system: &System, path: &[u8], text: &[u8], calendar: &[u8], given: &[u8], found: Found) -> i32 {
     let mut register = space::register();
-    if !terminal::file(4, &mut register) {
+    if !terminal::file(system, 4, &mut register) {
         return TROUBLE;
     }
     if text::same(given, &register) {
@@ -87,7 +87,7 @@ pub fn audit(path: &[u8], text: &[u8], calendar: &[u8], given: &[u8], found: Fou
             0,
             b"the register is exactly what its journal gives\n",
         );
-        return say(STDOUT_FILENO, &out, end, DONE);
+        return say(system, Stream::Output, &out, end, DONE);
     }
-    tell_difference(path, text, calendar, given, &register, found)
+    tell_difference(system, path, text, calendar, given, &register, found)
 }

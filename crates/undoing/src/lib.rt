@@ -12,6 +12,7 @@ use files::{Installed, Loaded};
 use keeping::Standing;
 use matching::Found;
 use phrases::fill;
+use system::{File, System};
 use terminal::{TROUBLE, refuse};
 
 // What a file of series that was written with the call is now. An announcement has none.
@@ -32,8 +33,8 @@ fn put_file(out: &mut [u8], at: usize, kind: u8) -> usize {
 }
 
 // What was taken back, and how the register stands now.
-fn tell(line: &[u8], kind: u8, register: &[u8]) -> i32 {
-    let mut out = io::buffer();
+fn tell(system: &System, line: &[u8], kind: u8, register: &[u8]) -> i32 {
+    let mut out = system::buffer();
     let at = text::put(&mut out, 0, b"taken back: ");
     let at = text::put(&mut out, at, line);
     let rows = reading::row_count(register);
@@ -54,32 +55,32 @@ fn tell(line: &[u8], kind: u8, register: &[u8]) -> i32 {
         b"\n  the journal keeps the line, and calls refused behind it, as comments\n",
     );
     let end = put_file(&mut out, end, kind);
-    terminal::tell(&out, end, b"register and journal")
+    terminal::tell(system, &out, end, b"register and journal")
 }
 
 // Puts the new register and then the new journal in place.
-fn install(path: &[u8], beside: &[u8], journal: &[u8], journal_beside: &[u8]) -> Installed {
-    let installed = files::install(path, beside, b"");
+fn install(system: &System, path: &[u8], beside: &[u8], journal: &[u8], journal_beside: &[u8]) -> Installed {
+    let installed = files::install(system, path, beside, b"");
     if let Installed::Failed = installed {
-        files::discard(journal_beside);
+        files::discard(system, journal_beside);
         return installed;
     }
-    files::install(journal, journal_beside, b"the register did move back; ")
+    files::install(system, journal, journal_beside, b"the register did move back; ")
 }
 
 // Whether the journal still has as many bytes as were read of it: a call that was kept meanwhile would be lost.
-fn is_as_read(journal: &[u8], size: usize) -> bool {
-    let file = attributes::of(journal);
+fn is_as_read(system: &System, journal: &[u8], size: usize) -> bool {
+    let file = attributes::of(system, journal);
     if file.size == text::narrowed(size) as i64 {
         return true;
     }
-    files::complain(journal, b"it was changed meanwhile: run the command again");
+    files::complain(system, journal, b"it was changed meanwhile: run the command again");
     false
 }
 
 // Takes back a call that the register has: it becomes what the calls before give.
-fn take_back(
-    fd: i32,
+fn take_back(system: &System, 
+    opened: File,
     path: &[u8],
     beside: &[u8],
     journal: &[u8],
@@ -91,25 +92,25 @@ fn take_back(
 ) -> i32 {
     let mut register = space::register();
     let before = text::part(text, 0, found.at);
-    if !rebuilding::rebuild(journal, before, calendar, &mut register) {
-        files::release(fd, beside);
+    if !rebuilding::rebuild(system, journal, before, calendar, &mut register) {
+        files::release(system, opened, beside);
         return TROUBLE;
     }
-    if !files::save(fd, path, beside, &register) {
+    if !files::save(system, opened, path, beside, &register) {
         return TROUBLE;
     }
-    if !comments::make(journal, journal_beside, text, found.at) {
-        files::discard(beside);
+    if !comments::make(system, journal, journal_beside, text, found.at) {
+        files::discard(system, beside);
         return TROUBLE;
     }
-    if !is_as_read(journal, size) {
-        files::discard(journal_beside);
-        files::discard(beside);
+    if !is_as_read(system, journal, size) {
+        files::discard(system, journal_beside);
+        files::discard(system, beside);
         return TROUBLE;
     }
-    let installed = install(path, beside, journal, journal_beside);
+    let installed = install(system, path, beside, journal, journal_beside);
     match installed {
-        Installed::Done => tell(call_of(text, found), found.kind, &register),
+        Installed::Done => tell(system, call_of(text, found), found.kind, &register),
         _ => TROUBLE,
     }
 }
@@ -130,8 +131,8 @@ fn before_answer(line: &[u8]) -> usize {
 }
 
 // Takes back a call that the register has not, or has no longer: a run was cut off.
-fn strike_out(
-    fd: i32,
+fn strike_out(system: &System, 
+    opened: File,
     beside: &[u8],
     journal: &[u8],
     journal_beside: &[u8],
@@ -139,30 +140,30 @@ fn strike_out(
     found: Found,
     register: &[u8],
 ) -> i32 {
-    let is_made = comments::make(journal, journal_beside, text, found.at);
+    let is_made = comments::make(system, journal, journal_beside, text, found.at);
     if !is_made {
-        files::release(fd, beside);
+        files::release(system, opened, beside);
         return TROUBLE;
     }
-    let installed = files::install(journal, journal_beside, b"");
-    files::release(fd, beside);
+    let installed = files::install(system, journal, journal_beside, b"");
+    files::release(system, opened, beside);
     match installed {
-        Installed::Done => tell(call_of(text, found), found.kind, register),
+        Installed::Done => tell(system, call_of(text, found), found.kind, register),
         _ => TROUBLE,
     }
 }
 
-fn nothing_accepted(fd: i32, beside: &[u8], journal: &[u8]) -> i32 {
-    files::release(fd, beside);
-    files::complain(
+fn nothing_accepted(system: &System, opened: File, beside: &[u8], journal: &[u8]) -> i32 {
+    files::release(system, opened, beside);
+    files::complain(system, 
         journal,
         b"none of its calls is accepted: there is nothing to take back",
     );
     TROUBLE
 }
 
-fn judged(
-    fd: i32,
+fn judged(system: &System, 
+    opened: File,
     path: &[u8],
     beside: &[u8],
     journal: &[u8],
@@ -173,14 +174,14 @@ fn judged(
     register: &[u8],
 ) -> i32 {
     let text = journal::whole(bytes);
-    let standing = keeping::judge(journal, bytes, calendar, register, true);
+    let standing = keeping::judge(system, journal, bytes, calendar, register, true);
     match standing {
         Standing::InStep(found) => {
             if found.line == 0 {
-                return nothing_accepted(fd, beside, journal);
+                return nothing_accepted(system, opened, beside, journal);
             }
-            take_back(
-                fd,
+            take_back(system, 
+                opened,
                 path,
                 beside,
                 journal,
@@ -192,18 +193,18 @@ fn judged(
             )
         }
         Standing::Ahead(found) => {
-            strike_out(fd, beside, journal, journal_beside, text, found, register)
+            strike_out(system, opened, beside, journal, journal_beside, text, found, register)
         }
         Standing::Bad => {
-            files::release(fd, beside);
+            files::release(system, opened, beside);
             TROUBLE
         }
     }
 }
 
 // With the register that this run has locked, and the journal.
-fn with_files(
-    fd: i32,
+fn with_files(system: &System, 
+    opened: File,
     path: &[u8],
     beside: &[u8],
     journal: &[u8],
@@ -212,18 +213,18 @@ fn with_files(
     room: &mut [u8],
 ) -> i32 {
     let mut register = space::register();
-    let Loaded::Bytes(n) = terminal::text(4, room) else {
-        files::release(fd, beside);
+    let Loaded::Bytes(n) = terminal::text(system, 4, room) else {
+        files::release(system, opened, beside);
         return TROUBLE;
     };
     // a start that was cut off leaves no register
-    if !terminal::register_or_none(path, &mut register) {
-        files::release(fd, beside);
+    if !terminal::register_or_none(system, path, &mut register) {
+        files::release(system, opened, beside);
         return TROUBLE;
     }
     let length = journal::end_line(room, n);
-    judged(
-        fd,
+    judged(system, 
+        opened,
         path,
         beside,
         journal,
@@ -235,38 +236,37 @@ fn with_files(
     )
 }
 
-fn lock(path: &[u8], journal: &[u8], calendar: &[u8], room: &mut [u8]) -> i32 {
-    let mut name = io::buffer();
-    let end = files::beside(path, &mut name);
-    let mut journal_name = io::buffer();
-    let journal_end = files::beside(journal, &mut journal_name);
+fn lock(system: &System, path: &[u8], journal: &[u8], calendar: &[u8], room: &mut [u8]) -> i32 {
+    let mut name = system::buffer();
+    let end = files::beside(system, path, &mut name);
+    let mut journal_name = system::buffer();
+    let journal_end = files::beside(system, journal, &mut journal_name);
     if end == 0 || journal_end == 0 {
         return TROUBLE;
     }
     let beside = text::part(&name, 0, end);
     let journal_beside = text::part(&journal_name, 0, journal_end);
-    let fd = files::lock_first(path, beside, journal_beside);
-    if fd < 0 {
+    let Some(opened) = files::lock_first(system, path, beside, journal_beside) else {
         return TROUBLE;
-    }
-    with_files(fd, path, beside, journal, journal_beside, calendar, room)
+    };
+    with_files(system, opened, path, beside, journal, journal_beside, calendar, room)
 }
 
 // `room` is for the journal's text.
-pub fn undo(calendar: &[u8], room: &mut [u8]) -> i32 {
+pub fn undo(system: &System, calendar: &[u8], room: &mut [u8]) -> i32 {
     let checked = passing::check(calendar);
     if checked.number != 0 {
         let none = space::register();
-        return refuse(calendar, &none, checked.number, checked.month, 0, 0);
+        return refuse(system, calendar, &none, checked.number, checked.month, 0, 0);
     }
-    let mut path = io::buffer();
-    let end = terminal::followed(3, &mut path);
-    let mut journal = io::buffer();
-    let journal_end = terminal::followed(4, &mut journal);
+    let mut path = system::buffer();
+    let end = terminal::followed(system, 3, &mut path);
+    let mut journal = system::buffer();
+    let journal_end = terminal::followed(system, 4, &mut journal);
     if end == 0 || journal_end == 0 {
         return TROUBLE;
     }
-    lock(
+    lock(system, 
         text::part(&path, 0, end),
         text::part(&journal, 0, journal_end),
         calendar,
