@@ -1,5 +1,6 @@
 // How old a file is.
 use crate::Attributes;
+use system::System;
 
 // A size or a time of the system; 0 where it is below zero.
 pub fn unsigned(n: i64) -> usize {
@@ -10,10 +11,8 @@ pub fn unsigned(n: i64) -> usize {
 }
 
 // How many seconds ago a time was; 0 where it lies ahead of the clock.
-fn seconds_since(time: i64) -> usize {
-    let mut clock: i64 = 0;
-    libc::time(&mut clock);
-    let now = unsigned(clock);
+fn seconds_since(system: &System, time: i64) -> usize {
+    let now = system.now();
     let then = unsigned(time);
     if now < then {
         return 0;
@@ -37,8 +36,8 @@ fn put_two(out: &mut [u8], at: usize, n: usize, unit: &[u8], rest: usize, part: 
 }
 
 // How long ago a file was changed, by the two greatest parts of that time.
-pub fn put_age(out: &mut [u8], at: usize, file: Attributes) -> usize {
-    let seconds = seconds_since(file.changed);
+pub fn put_age(system: &System, out: &mut [u8], at: usize, file: Attributes) -> usize {
+    let seconds = seconds_since(system, file.changed);
     let minutes = seconds / 60;
     let hours = minutes / 60;
     if 24 <= hours {

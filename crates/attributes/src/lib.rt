@@ -3,12 +3,20 @@
 
 mod age;
 
-ghost use Rattle.libc.specs.Io.{Ended};
+ghost use Rattle.attributes.specs.Paths.{Ended};
 
 pub use age::{put_age, unsigned};
-use libc::{PATH_MAX, types};
+use std::os::unix::fs::MetadataExt;
+use system::{EINVAL, ENOENT, Metadata, PATH_MAX, System};
 
 const LAST: usize = PATH_MAX - 1;
+
+// The bits of a mode that say what a file is, and what they say of a regular file and of a folder.
+const FORMAT: u32 = 0o170000;
+
+const REGULAR: u32 = 0o100000;
+
+const FOLDER: u32 = 0o040000;
 
 // The bits of a mode that say who may read, write and run the file.
 const PERMISSIONS: u32 = 0o777;
@@ -17,7 +25,7 @@ const WRITING: u32 = 0o222;
 
 // Where the system could not tell, neither `is_known` nor `is_there` holds and errno says why; where it told that there is
 // no such file, `is_known` alone holds. So whoever must not take trouble for a missing file asks `is_known` first.
-#[derive(Drop)]
+#[derive(Clone, Copy)]
 pub struct Attributes {
     pub is_known: bool,
     pub is_there: bool,
@@ -41,101 +49,76 @@ pub enum Link {
     Unknown,
 }
 
-// What `stat` answered, and what it left in the struct that it was lent.
-#[derive(Drop)]
-struct Answer {
-    pub status: i32,
-    pub found: types::stat,
-}
-
-// The one function that lends a struct, which the borrow checker does not cover: proved by hand.
-fn ask(path: &[u8; PATH_MAX], start: types::stat) -> Answer
-    requires { Ended path.now }
-{
-    let mut found = start;
-    let status = libc::stat(path, &mut found);
-    Answer {
-        status: status,
-        found: found,
-    }
-}
-
 // A path as C reads it. All of it where `is_path`.
 fn ended(path: &[u8]) -> [u8; PATH_MAX]
     ensures { Ended result }
 {
-    let mut name = io::buffer();
+    let mut name = system::buffer();
     text::put(&mut name, 0, path);
     name[LAST] = 0;
     name
 }
 
-// Whether C can be handed all of a path. Where it cannot, errno says why, by a call that comes to nothing.
-fn is_path(path: &[u8]) -> bool {
-    if path.len() < PATH_MAX && text::find(path, 0, 0) == path.len() {
+// Whether C can be handed all of a path: as C reads it, it ends where the path does. Where it cannot, the error says why, by
+// a call that comes to nothing.
+fn is_path(system: &System, path: &[u8]) -> bool {
+    let name = ended(path);
+    if text::find(&name, 0, 0) == path.len() {
         return true;
     }
-    os::open_read(path);
+    let _ = system.open_read(path);
     false
 }
 
-fn zeros() -> types::stat {
-    let time = types::timespec {
-        tv_sec: 0,
-        tv_nsec: 0,
-    };
-    types::stat {
-        st_dev: 0,
-        st_ino: 0,
-        st_nlink: 0,
-        st_mode: 0,
-        st_uid: 0,
-        st_gid: 0,
-        __pad: 0,
-        st_rdev: 0,
-        st_size: 0,
-        st_blksize: 0,
-        st_blocks: 0,
-        st_atim: time,
-        st_mtim: time,
-        st_ctim: time,
-        __unused: [0i64; 3],
-    }
-}
-
-fn made_of(is_known: bool, is_there: bool, found: types::stat) -> Attributes {
-    let changed = found.st_mtim;
+// Those of a file that is not there.
+fn zeros(is_known: bool) -> Attributes {
     Attributes {
         is_known: is_known,
-        is_there: is_there,
-        mode: found.st_mode,
-        owner: found.st_uid,
-        group: found.st_gid,
-        device: found.st_dev,
-        inode: found.st_ino,
-        size: found.st_size,
-        changed: changed.tv_sec,
+        is_there: false,
+        mode: 0,
+        owner: 0,
+        group: 0,
+        device: 0,
+        inode: 0,
+        size: 0,
+        changed: 0,
     }
 }
 
-pub fn of(path: &[u8]) -> Attributes {
-    if !is_path(path) {
-        return made_of(false, false, zeros());
+fn made_of(found: Metadata) -> Attributes {
+    Attributes {
+        is_known: true,
+        is_there: true,
+        mode: found.mode(),
+        owner: found.uid(),
+        group: found.gid(),
+        device: found.dev(),
+        inode: found.ino(),
+        size: found.size().cast_signed(),
+        changed: found.mtime(),
     }
-    let name = ended(path);
-    let answer = ask(&name, zeros());
-    if answer.status == 0 {
-        return made_of(true, true, answer.found);
+}
+
+fn ask(system: &System, path: &[u8]) -> Attributes {
+    match system.metadata(path) {
+        Some(found) => made_of(found),
+        None => zeros(system.error() == ENOENT),
     }
-    made_of(os::errno() == libc::ENOENT, false, zeros())
+}
+
+pub fn of(system: &System, path: &[u8]) -> Attributes {
+    if !is_path(system, path) {
+        return zeros(false);
+    }
+    ask(system, path)
 }
 
 pub fn is_regular(file: Attributes) -> bool {
-    file.is_there && file.mode & libc::S_IFMT == libc::S_IFREG
+    file.is_there && file.mode & FORMAT == REGULAR
 }
 
 pub fn is_folder(file: Attributes) -> bool {
-    file.is_there && file.mode & libc::S_IFMT == libc::S_IFDIR
+    file.is_there && file.mode & FORMAT == FOLDER
 }
 
 // Nobody may write it, its owner neither.
@@ -148,17 +131,15 @@ pub fn permissions(file: Attributes) -> u32 {
 }
 
 // Where a link leads, put at the start of the buffer.
-pub fn link_of(path: &[u8], target: &mut [u8]) -> Link {
-    if !is_path(path) {
+pub fn link_of(system: &System, path: &[u8], target: &mut [u8]) -> Link {
+    if !is_path(system, path) {
         return Link::Unknown;
     }
-    let name = ended(path);
-    let got = libc::readlink(&name, target);
-    if 0 <= got {
-        return Link::To(io::count(got, target));
+    if let Some(n) = system.link_target(path, target) {
+        return Link::To(n);
     }
-    let error = os::errno();
-    if error == libc::EINVAL || error == libc::ENOENT {
+    let error = system.error();
+    if error == EINVAL || error == ENOENT {
         return Link::No;
     }
     Link::Unknown

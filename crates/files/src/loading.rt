@@ -1,6 +1,6 @@
 // Reading a file whole.
 use crate::{complain, fail};
-use libc::STDIN_FILENO;
+use system::{ENOENT, Source, System};
 
 #[derive(Drop)]
 pub enum Loaded {
@@ -12,27 +12,26 @@ pub enum Loaded {
 }
 
 // All that is left to read of an open file, put at the start of the buffer.
-fn read_whole(fd: i32, path: &[u8], buffer: &mut [u8]) -> Loaded {
-    let n = io::read_full(fd, buffer);
+fn read_whole(system: &System, from: Source<'_>, path: &[u8], buffer: &mut [u8]) -> Loaded {
+    let n = system.read_full(from, buffer);
     // a short read is the end of the file or an error: one more byte tells
     let mut one = [0u8; 1];
-    let more = libc::read(fd, &mut one);
-    if more < 0 {
-        fail(path);
+    let Some(more) = system.read_once(from, &mut one) else {
+        fail(system, path);
         return Loaded::Failed;
-    }
+    };
     if more == 0 {
         return Loaded::Bytes(n);
     }
     if n < buffer.len() {
-        complain(path, b"it could not be read to its end");
+        complain(system, path, b"it could not be read to its end");
         return Loaded::Failed;
     }
-    complain_long(path, n);
+    complain_long(system, path, n);
     Loaded::Failed
 }
 
-fn complain_long(path: &[u8], most: usize) {
+fn complain_long(system: &System, path: &[u8], most: usize) {
     let mut words = [0u8; 80];
     let at = text::put(
         &mut words,
@@ -41,39 +40,33 @@ fn complain_long(path: &[u8], most: usize) {
     );
     let at = text::number(&mut words, at, text::narrowed(most));
     let end = text::put(&mut words, at, b" bytes");
-    complain(path, text::part(&words, 0, end));
+    complain(system, path, text::part(&words, 0, end));
 }
 
 // Reads the whole file to the start of the buffer.
-pub fn load(path: &[u8], buffer: &mut [u8]) -> Loaded {
-    let fd = os::open_read(path);
-    if fd < 0 {
-        if os::errno() == libc::ENOENT {
+pub fn load(system: &System, path: &[u8], buffer: &mut [u8]) -> Loaded {
+    let Some(file) = system.open_read(path) else {
+        if system.error() == ENOENT {
             return Loaded::Missing;
         }
-        fail(path);
+        fail(system, path);
         return Loaded::Failed;
-    }
-    let loaded = read_whole(fd, path, buffer);
-    libc::close(fd);
-    loaded
+    };
+    read_whole(system, Source::File(&file), path, buffer)
 }
 
 // The same, where - is standard input.
-pub fn load_text(path: &[u8], buffer: &mut [u8]) -> Loaded {
+pub fn load_text(system: &System, path: &[u8], buffer: &mut [u8]) -> Loaded {
     if text::same(path, b"-") {
-        return read_whole(STDIN_FILENO, b"standard input", buffer);
+        return read_whole(system, Source::Input, b"standard input", buffer);
     }
-    load(path, buffer)
+    load(system, path, buffer)
 }
 
 // The first bytes of a file, as many as the buffer holds, put at its start; none where they cannot be had.
-pub fn peek(path: &[u8], buffer: &mut [u8]) -> usize {
-    let fd = os::open_read(path);
-    if fd < 0 {
-        return 0;
+pub fn peek(system: &System, path: &[u8], buffer: &mut [u8]) -> usize {
+    match system.open_read(path) {
+        Some(file) => system.read_full(Source::File(&file), buffer),
+        None => 0,
     }
-    let n = io::read_full(fd, buffer);
-    libc::close(fd);
-    n
 }

@@ -1,18 +1,19 @@
 // Names of files: the one that a path leads to, the one of the new file beside it, two names of one file.
 use crate::{complain, fail};
 use attributes::{Attributes, Link};
+use system::System;
 
 // As many links in a row as the system follows.
 const LINKS: usize = 40;
 
 // Whether a name of this length was put whole into so much room and has a letter.
-fn is_name(path: &[u8], end: usize, room: usize) -> bool {
+fn is_name(system: &System, path: &[u8], end: usize, room: usize) -> bool {
     if end == 0 {
-        complain(b"a file", b"its name is empty");
+        complain(system, b"a file", b"its name is empty");
         return false;
     }
     if room <= end {
-        complain(path, b"the name is too long");
+        complain(system, path, b"the name is too long");
         return false;
     }
     true
@@ -42,9 +43,9 @@ fn lead_on(real: &mut [u8], end: usize, target: &[u8]) -> usize {
 }
 
 // One link on. The name is then that of its target, of the length told.
-fn next(real: &mut [u8], end: usize) -> Link {
-    let mut target = io::buffer();
-    let link = attributes::link_of(text::part(real, 0, end), &mut target);
+fn next(system: &System, real: &mut [u8], end: usize) -> Link {
+    let mut target = system::buffer();
+    let link = attributes::link_of(system, text::part(real, 0, end), &mut target);
     let Link::To(n) = link else {
         return link;
     };
@@ -53,25 +54,25 @@ fn next(real: &mut [u8], end: usize) -> Link {
 
 // The name of the file that a path leads to, links followed, put into `real`; that file may be missing. Answers its length,
 // or 0: then trouble is told.
-pub fn follow(path: &[u8], real: &mut [u8]) -> usize {
+pub fn follow(system: &System, path: &[u8], real: &mut [u8]) -> usize {
     let mut end = text::put(real, 0, path);
     let mut links: usize = 0;
     while links <= LINKS {
-        if !is_name(path, end, real.len()) {
+        if !is_name(system, path, end, real.len()) {
             return 0;
         }
-        let link = next(real, end);
+        let link = next(system, real, end);
         if let Link::No = link {
             return end;
         }
         let Link::To(n) = link else {
-            fail(path);
+            fail(system, path);
             return 0;
         };
         end = n;
         links += 1;
     }
-    complain(path, b"its links come to no end");
+    complain(system, path, b"its links come to no end");
     0
 }
 
@@ -79,10 +80,10 @@ pub fn follow(path: &[u8], real: &mut [u8]) -> usize {
 const NEW: [u8; 4] = *b".new";
 
 // The name of the new file beside `path`, put into `name`. Answers its length, 0 where it does not fit.
-pub fn beside(path: &[u8], name: &mut [u8]) -> usize {
+pub fn beside(system: &System, path: &[u8], name: &mut [u8]) -> usize {
     let at = text::put(name, 0, path);
     let end = text::put(name, at, &NEW);
-    if is_name(path, end, name.len()) {
+    if is_name(system, path, end, name.len()) {
         return end;
     }
     0
@@ -100,10 +101,10 @@ fn is_one(a: Attributes, b: Attributes) -> bool {
     a.is_there && b.is_there && a.device == b.device && a.inode == b.inode
 }
 
-fn folder_of(path: &[u8]) -> Attributes {
-    let mut folder = io::buffer();
+fn folder_of(system: &System, path: &[u8]) -> Attributes {
+    let mut folder = system::buffer();
     let end = put_folder(&mut folder, path);
-    attributes::of(text::part(&folder, 0, end))
+    attributes::of(system, text::part(&folder, 0, end))
 }
 
 fn last_part(path: &[u8]) -> &[u8] {
@@ -111,36 +112,40 @@ fn last_part(path: &[u8]) -> &[u8] {
 }
 
 // Whether two names would be those of one file, if there were one.
-fn is_same_place(a: &[u8], b: &[u8]) -> bool {
-    text::same(last_part(a), last_part(b)) && is_one(folder_of(a), folder_of(b))
+fn is_same_place(system: &System, a: &[u8], b: &[u8]) -> bool {
+    text::same(last_part(a), last_part(b)) && is_one(folder_of(system, a), folder_of(system, b))
 }
 
 // The same of two names that no file has, links followed. Those of which that cannot be known count as one.
-fn is_same_missing(a: &[u8], b: &[u8]) -> bool {
-    let mut real_a = io::buffer();
-    let mut real_b = io::buffer();
-    let end_a = follow(a, &mut real_a);
-    let end_b = follow(b, &mut real_b);
+fn is_same_missing(system: &System, a: &[u8], b: &[u8]) -> bool {
+    let mut real_a = system::buffer();
+    let mut real_b = system::buffer();
+    let end_a = follow(system, a, &mut real_a);
+    let end_b = follow(system, b, &mut real_b);
     if end_a == 0 || end_b == 0 {
         return true;
     }
-    is_same_place(text::part(&real_a, 0, end_a), text::part(&real_b, 0, end_b))
+    is_same_place(
+        system,
+        text::part(&real_a, 0, end_a),
+        text::part(&real_b, 0, end_b),
+    )
 }
 
 // Whether two names lead to one file, be it there or not. Where the system cannot tell, that is told, and they count as one.
-pub fn is_same(a: &[u8], b: &[u8]) -> bool {
-    let file_a = attributes::of(a);
+pub fn is_same(system: &System, a: &[u8], b: &[u8]) -> bool {
+    let file_a = attributes::of(system, a);
     if !file_a.is_known {
-        fail(a);
+        fail(system, a);
         return true;
     }
-    let file_b = attributes::of(b);
+    let file_b = attributes::of(system, b);
     if !file_b.is_known {
-        fail(b);
+        fail(system, b);
         return true;
     }
     if file_a.is_there || file_b.is_there {
         return is_one(file_a, file_b);
     }
-    is_same_missing(a, b)
+    is_same_missing(system, a, b)
 }

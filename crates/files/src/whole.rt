@@ -1,10 +1,7 @@
 // Replacing a file whole.
 use crate::{complain, fail, note, paths, trouble};
 use attributes::Attributes;
-use libc::STDERR_FILENO;
-
-// Leaves owner or group of a file as it is.
-const AS_IT_IS: u32 = 4294967295;
+use system::{EEXIST, File, Stream, System};
 
 // Room for a path in quotes.
 const ROOM: usize = 16384;
@@ -19,9 +16,9 @@ pub enum Installed {
 }
 
 // Whether a file of these attributes, or a missing one, may be written; else that is told.
-pub fn is_destination(path: &[u8], file: Attributes) -> bool {
+pub fn is_destination(system: &System, path: &[u8], file: Attributes) -> bool {
     if !file.is_known {
-        fail(path);
+        fail(system, path);
         return false;
     }
     if !file.is_there {
@@ -29,160 +26,157 @@ pub fn is_destination(path: &[u8], file: Attributes) -> bool {
     }
     if attributes::is_regular(file) {
         if attributes::is_protected(file) {
-            complain(path, b"is write-protected: no destination");
+            complain(system, path, b"is write-protected: no destination");
             return false;
         }
         return true;
     }
     if attributes::is_folder(file) {
-        complain(path, b"is a folder: no destination");
+        complain(system, path, b"is a folder: no destination");
         return false;
     }
-    complain(path, b"is a device, pipe or socket: no destination");
+    complain(system, path, b"is a device, pipe or socket: no destination");
     false
 }
 
 // That a new file is there already, and since when.
-fn put_lock(out: &mut [u8], beside: &[u8]) -> usize {
+fn put_lock(system: &System, out: &mut [u8], beside: &[u8]) -> usize {
     let at = text::put(out, 0, b"is there already, for ");
-    let at = attributes::put_age(out, at, attributes::of(beside));
+    let at = attributes::put_age(system, out, at, attributes::of(system, beside));
     text::put(out, at, b": another run is at work, or one was cut off")
 }
 
-fn write_word(name: &[u8]) {
+fn write_word(system: &System, name: &[u8]) {
     let mut word = [0u8; ROOM];
     let end = quoting::put_word(&mut word, 0, name);
-    io::write_all(STDERR_FILENO, b" ");
-    io::write_all(STDERR_FILENO, text::part(&word, 0, end));
+    system.write_to(Stream::Error, b" ");
+    system.write_to(Stream::Error, text::part(&word, 0, end));
 }
 
 // The new file is there already, and perhaps the other one of the same run: how they are taken away.
-fn tell_lock(beside: &[u8], other: &[u8]) {
+fn tell_lock(system: &System, beside: &[u8], other: &[u8]) {
     let mut words = [0u8; 160];
-    let end = put_lock(&mut words, beside);
-    complain(beside, text::part(&words, 0, end));
-    let are_both = attributes::of(other).is_there;
+    let end = put_lock(system, &mut words, beside);
+    complain(system, beside, text::part(&words, 0, end));
+    let are_both = attributes::of(system, other).is_there;
     if are_both {
-        let end = put_lock(&mut words, other);
-        note(other, text::part(&words, 0, end));
+        let end = put_lock(system, &mut words, other);
+        note(system, other, text::part(&words, 0, end));
     }
-    io::write_all(STDERR_FILENO, b"  if no other run is at work, remove ");
+    system.write_to(Stream::Error, b"  if no other run is at work, remove ");
     if are_both {
-        io::write_all(STDERR_FILENO, b"both and run the command again: rm");
-        write_word(beside);
-        write_word(other);
+        system.write_to(Stream::Error, b"both and run the command again: rm");
+        write_word(system, beside);
+        write_word(system, other);
     } else {
-        io::write_all(STDERR_FILENO, b"it and run the command again: rm");
-        write_word(beside);
+        system.write_to(Stream::Error, b"it and run the command again: rm");
+        write_word(system, beside);
     }
-    io::write_all(STDERR_FILENO, b"\n");
+    system.write_to(Stream::Error, b"\n");
 }
 
-// Makes the new file beside a path and answers its descriptor, or -1: then trouble is told.
-pub fn lock(path: &[u8], beside: &[u8]) -> i32 {
-    lock_first(path, beside, b"")
+// Makes the new file beside a path and answers it, open to be written, or none: then trouble is told.
+pub fn lock(system: &System, path: &[u8], beside: &[u8]) -> Option<File> {
+    lock_first(system, path, beside, b"")
 }
 
 // The same where a run makes another new file next: one that is there too is told beside this one.
-pub fn lock_first(path: &[u8], beside: &[u8], other: &[u8]) -> i32 {
+pub fn lock_first(system: &System, path: &[u8], beside: &[u8], other: &[u8]) -> Option<File> {
     if beside.len() == 0 {
-        return -1;
+        return None;
     }
-    if !is_destination(path, attributes::of(path)) {
-        return -1;
+    if !is_destination(system, path, attributes::of(system, path)) {
+        return None;
     }
-    let fd = os::create(beside);
-    if 0 <= fd {
-        return fd;
+    let file = system.create(beside);
+    if file.is_some() {
+        return file;
     }
-    if os::errno() == libc::EEXIST {
-        tell_lock(beside, other);
-        return -1;
+    if system.error() == EEXIST {
+        tell_lock(system, beside, other);
+    } else {
+        fail(system, beside);
     }
-    fail(beside);
-    -1
+    None
 }
 
 // Takes the new file away again and leaves the old one as it is.
-pub fn discard(beside: &[u8]) {
-    if os::unlink(beside) != 0 {
-        trouble(beside, b"it could not be taken away");
+pub fn discard(system: &System, beside: &[u8]) {
+    if !system.unlink(beside) {
+        trouble(system, beside, b"it could not be taken away");
     }
 }
 
 // The same while the new file is open.
-pub fn release(fd: i32, beside: &[u8]) {
-    libc::close(fd);
-    discard(beside);
+pub fn release(system: &System, file: File, beside: &[u8]) {
+    drop(file);
+    discard(system, beside);
 }
 
 // Gives the new file owner, group and permissions of the file at `path`, as far as the system allows: first its owner, whom
 // the permissions are for. False where it cannot be known what they are; that is told.
-pub fn dress(fd: i32, path: &[u8]) -> bool {
-    let file = attributes::of(path);
-    if !file.is_known {
-        fail(path);
+pub fn dress(system: &System, file: &File, path: &[u8]) -> bool {
+    let old = attributes::of(system, path);
+    if !old.is_known {
+        fail(system, path);
         return false;
     }
-    if !file.is_there {
+    if !old.is_there {
         return true;
     }
-    if libc::fchown(fd, file.owner, file.group) != 0 {
-        libc::fchown(fd, AS_IT_IS, file.group);
+    if !system.chown(file, Some(old.owner), Some(old.group)) {
+        system.chown(file, None, Some(old.group));
     }
-    libc::fchmod(fd, attributes::permissions(file));
+    system.chmod(file, attributes::permissions(old));
     true
 }
 
 // Brings the new file to the disk and closes it. Where that fails it is taken away.
-pub fn finish(fd: i32, beside: &[u8]) -> bool {
-    if libc::fsync(fd) != 0 {
-        fail(beside);
-        release(fd, beside);
-        return false;
+pub fn finish(system: &System, file: File, beside: &[u8]) -> bool {
+    if system.sync(&file) {
+        return true;
     }
-    if libc::close(fd) != 0 {
-        fail(beside);
-        discard(beside);
-        return false;
-    }
-    true
+    fail(system, beside);
+    release(system, file, beside);
+    false
 }
 
 // Writes the new file, in the dress of the old one, and brings it to the disk. Where that fails it is taken away.
-pub fn save(fd: i32, path: &[u8], beside: &[u8], bytes: &[u8]) -> bool {
-    if !dress(fd, path) {
-        release(fd, beside);
+pub fn save(system: &System, file: File, path: &[u8], beside: &[u8], bytes: &[u8]) -> bool {
+    if !dress(system, &file, path) {
+        release(system, file, beside);
         return false;
     }
-    if !io::write_all(fd, bytes) {
-        fail(beside);
-        release(fd, beside);
+    if !system.write(&file, bytes) {
+        fail(system, beside);
+        release(system, file, beside);
         return false;
     }
-    finish(fd, beside)
+    finish(system, file, beside)
 }
 
 // Puts the new file in the place of the old one. Trouble is told behind what has moved before.
-pub fn put_in_place(path: &[u8], beside: &[u8], moved: &[u8]) -> bool {
-    if os::rename(beside, path) == 0 {
+pub fn put_in_place(system: &System, path: &[u8], beside: &[u8], moved: &[u8]) -> bool {
+    if system.rename(beside, path) {
         return true;
     }
-    io::write_all(STDERR_FILENO, moved);
+    system.write_to(Stream::Error, moved);
     trouble(
+        system,
         path,
         b"it is as it was, run the command again: the new one could not take its place",
     );
-    discard(beside);
+    discard(system, beside);
     false
 }
 
 // Brings the folder of a file that did move to the disk.
-pub fn settle(path: &[u8]) -> Installed {
-    if sync_folder(path) {
+pub fn settle(system: &System, path: &[u8]) -> Installed {
+    if sync_folder(system, path) {
         return Installed::Done;
     }
     trouble(
+        system,
         path,
         b"it did move, but its folder could not be brought to the disk",
     );
@@ -190,46 +184,42 @@ pub fn settle(path: &[u8]) -> Installed {
 }
 
 // Both.
-pub fn install(path: &[u8], beside: &[u8], moved: &[u8]) -> Installed {
-    if put_in_place(path, beside, moved) {
-        return settle(path);
+pub fn install(system: &System, path: &[u8], beside: &[u8], moved: &[u8]) -> Installed {
+    if put_in_place(system, path, beside, moved) {
+        return settle(system, path);
     }
     Installed::Failed
 }
 
-fn replace_real(path: &[u8], bytes: &[u8]) -> Installed {
-    let mut name = io::buffer();
-    let end = paths::beside(path, &mut name);
+fn replace_real(system: &System, path: &[u8], bytes: &[u8]) -> Installed {
+    let mut name = system::buffer();
+    let end = paths::beside(system, path, &mut name);
     let beside = text::part(&name, 0, end);
-    let fd = lock(path, beside);
-    if fd < 0 {
+    let Some(file) = lock(system, path, beside) else {
+        return Installed::Failed;
+    };
+    if !save(system, file, path, beside, bytes) {
         return Installed::Failed;
     }
-    if !save(fd, path, beside, bytes) {
-        return Installed::Failed;
-    }
-    install(path, beside, b"")
+    install(system, path, beside, b"")
 }
 
 // Replaces the file that a path leads to by these bytes.
-pub fn replace(path: &[u8], bytes: &[u8]) -> Installed {
-    let mut real = io::buffer();
-    let end = paths::follow(path, &mut real);
+pub fn replace(system: &System, path: &[u8], bytes: &[u8]) -> Installed {
+    let mut real = system::buffer();
+    let end = paths::follow(system, path, &mut real);
     if end == 0 {
         return Installed::Failed;
     }
-    replace_real(text::part(&real, 0, end), bytes)
+    replace_real(system, text::part(&real, 0, end), bytes)
 }
 
-// Brings the folder's entry of a file to the disk. Where that fails errno says why.
-pub fn sync_folder(path: &[u8]) -> bool {
-    let mut folder = io::buffer();
+// Brings the folder's entry of a file to the disk. Where that fails the system's error says why.
+pub fn sync_folder(system: &System, path: &[u8]) -> bool {
+    let mut folder = system::buffer();
     let end = paths::put_folder(&mut folder, path);
-    let fd = os::open_read(text::part(&folder, 0, end));
-    if fd < 0 {
-        return false;
+    match system.open_read(text::part(&folder, 0, end)) {
+        Some(file) => system.sync(&file),
+        None => false,
     }
-    let is_there = libc::fsync(fd) == 0;
-    libc::close(fd);
-    is_there
 }

@@ -5,13 +5,14 @@ use commands::{
     ANNOUNCE, AUDIT, CALENDAR, CHECK, FILE, NAME, PICTURE, PREVIEW, REPLAY, ROWS, SERIES, SESSION,
     SHOW, START, UNDO, WHY,
 };
+use system::{Stream, System};
 
 // The program's version; tests/install.sh compares it with those of the library and its bindings.
 const VERSION: [u8; 5] = *b"0.2.0";
 
-fn overview(fd: i32) -> bool {
-    io::write_all(
-        fd,
+fn overview(system: &System, to: Stream) -> bool {
+    system.write_to(
+        to,
         b"sindhopul: the register of listed WIG20 options
 
   calendar LIST FILE                        make a session calendar from a list of days
@@ -43,9 +44,9 @@ sindhopul help COMMAND says more of a command, sindhopul --version which version
     )
 }
 
-fn start(fd: i32) -> bool {
-    io::write_all(
-        fd,
+fn start(system: &System, to: Stream) -> bool {
+    system.write_to(
+        to,
         b"
 Lists the six live months of DAY, a session day, around CLOSE, the close before it.
   CALENDAR   the session calendar, made by sindhopul calendar
@@ -57,9 +58,9 @@ Lists the six live months of DAY, a session day, around CLOSE, the close before 
     )
 }
 
-fn session(fd: i32) -> bool {
-    io::write_all(
-        fd,
+fn session(system: &System, to: Stream) -> bool {
+    system.write_to(
+        to,
         b"
 Moves the register to DAY, the next session day, with CLOSE, the close before it: drops the month that expired,
 widens each ladder to take in what the close requires and what was announced, and says what was added and removed.
@@ -72,9 +73,9 @@ sindhopul preview answers the same and changes no file; sindhopul undo takes the
     )
 }
 
-fn announce(fd: i32) -> bool {
-    io::write_all(
-        fd,
+fn announce(system: &System, to: Stream) -> bool {
+    system.write_to(
+        to,
         b"
 Takes in a strike that the exchange announced for MONTH; the next session lists it, and every strike up to it.
   REGISTER   replaced whole, never half written; while a run is at work, REGISTER.new is there
@@ -83,9 +84,9 @@ Takes in a strike that the exchange announced for MONTH; the next session lists 
     )
 }
 
-fn calendar(fd: i32) -> bool {
-    io::write_all(
-        fd,
+fn calendar(system: &System, to: Stream) -> bool {
+    system.write_to(
+        to,
         b"
 Makes a session calendar, 4,566 bytes: every weekday from 2000-01-01 to 2099-12-31 has a session but those of the list.
   LIST   one date a line: 2026-12-25 has no session; +2026-01-10 is an extra session on a Saturday or Sunday;
@@ -96,9 +97,9 @@ The first line that cannot be taken is told, and nothing is written.
     )
 }
 
-fn check(fd: i32) -> bool {
-    io::write_all(
-        fd,
+fn check(system: &System, to: Stream) -> bool {
+    system.write_to(
+        to,
         b"
 Says whether the calendar is accepted: 4,566 bytes, no bit set after 2099-12-31, and in every month a session from
 its first day to its third Friday.
@@ -106,36 +107,36 @@ its first day to its third Friday.
     )
 }
 
-fn preview(fd: i32) -> bool {
-    io::write_all(
-        fd,
+fn preview(system: &System, to: Stream) -> bool {
+    system.write_to(
+        to,
         b"
 What session would answer, with every row that it would add and what brings it in. No file is changed.
 ",
     )
 }
 
-fn rows(fd: i32) -> bool {
-    io::write_all(
-        fd,
+fn rows(system: &System, to: Stream) -> bool {
+    system.write_to(
+        to,
         b"
 Each listed strike of MONTH, or of all six live months: price, first day, names of call and put, origin.
 ",
     )
 }
 
-fn show(fd: i32) -> bool {
-    io::write_all(
-        fd,
+fn show(system: &System, to: Stream) -> bool {
+    system.write_to(
+        to,
         b"
 The six ladders: month, tier, expiry, span, rows, rows that are new today; and the announcements that wait.
 ",
     )
 }
 
-fn picture(fd: i32) -> bool {
-    io::write_all(
-        fd,
+fn picture(system: &System, to: Stream) -> bool {
+    system.write_to(
+        to,
         b"
 Draws the six ladders into FILE as SVG: strikes against months, coloured by origin, today's rows marked.
   FILE   replaced whole; - is standard output
@@ -143,18 +144,18 @@ Draws the six ladders into FILE as SVG: strikes against months, coloured by orig
     )
 }
 
-fn name(fd: i32) -> bool {
-    io::write_all(
-        fd,
+fn name(system: &System, to: Stream) -> bool {
+    system.write_to(
+        to,
         b"
 Reads the name of a series, as OW20L262400, or writes it.
 ",
     )
 }
 
-fn why(fd: i32) -> bool {
-    io::write_all(
-        fd,
+fn why(system: &System, to: Stream) -> bool {
+    system.write_to(
+        to,
         b"
 Since when the series is listed and what brought it in; or why it is not listed, and which close or announcement
 would bring it in.
@@ -162,9 +163,9 @@ would bring it in.
     )
 }
 
-fn replay(fd: i32) -> bool {
-    io::write_all(
-        fd,
+fn replay(system: &System, to: Stream) -> bool {
+    system.write_to(
+        to,
         b"
 Runs the calls of the journal from an empty register and writes REGISTER, replaced whole. Where a call answers
 another number than the journal tells, says which, and writes nothing.
@@ -174,9 +175,9 @@ another number than the journal tells, says which, and writes nothing.
     )
 }
 
-fn audit(fd: i32) -> bool {
-    io::write_all(
-        fd,
+fn audit(system: &System, to: Stream) -> bool {
+    system.write_to(
+        to,
         b"
 Says whether the register is exactly what the calls of the journal give, and if not the first thing that differs.
 Exit status 1 where they differ.
@@ -185,9 +186,9 @@ Exit status 1 where they differ.
     )
 }
 
-fn undo(fd: i32) -> bool {
-    io::write_all(
-        fd,
+fn undo(system: &System, to: Stream) -> bool {
+    system.write_to(
+        to,
         b"
 Takes the last accepted call back: the register is made again from the calls before it. The line of the call stays in
 the journal as a comment.
@@ -196,9 +197,9 @@ the journal as a comment.
     )
 }
 
-fn file(fd: i32) -> bool {
-    io::write_all(
-        fd,
+fn file(system: &System, to: Stream) -> bool {
+    system.write_to(
+        to,
         b"
 Writes the series that are new on the register's day, a call and a put for each new row, for the loader: the day, then
 names and origins, names ascending. A day without new series gives a file with the day alone.
@@ -208,9 +209,9 @@ start and session write it in one run with the register, with --file FILE.
     )
 }
 
-fn series(fd: i32) -> bool {
-    io::write_all(
-        fd,
+fn series(system: &System, to: Stream) -> bool {
+    system.write_to(
+        to,
         b"
 The day of a file of series and how many it has, then for each its name, month, type, strike and origin. Bytes that are
 no such file are refused, with the first place that is wrong, what stands there and what belongs there.
@@ -219,41 +220,43 @@ no such file are refused, with the first place that is wrong, what stands there 
     )
 }
 
-fn write_text(fd: i32, command: u32) -> bool {
+fn write_text(system: &System, to: Stream, command: u32) -> bool {
     match command {
-        START => start(fd),
-        SESSION => session(fd),
-        ANNOUNCE => announce(fd),
-        CALENDAR => calendar(fd),
-        CHECK => check(fd),
-        PREVIEW => preview(fd),
-        ROWS => rows(fd),
-        _ => write_more(fd, command),
+        START => start(system, to),
+        SESSION => session(system, to),
+        ANNOUNCE => announce(system, to),
+        CALENDAR => calendar(system, to),
+        CHECK => check(system, to),
+        PREVIEW => preview(system, to),
+        ROWS => rows(system, to),
+        _ => write_more(system, to, command),
     }
 }
 
-fn write_more(fd: i32, command: u32) -> bool {
+fn write_more(system: &System, to: Stream, command: u32) -> bool {
     match command {
-        SHOW => show(fd),
-        PICTURE => picture(fd),
-        NAME => name(fd),
-        WHY => why(fd),
-        REPLAY => replay(fd),
-        AUDIT => audit(fd),
-        UNDO => undo(fd),
-        FILE => file(fd),
-        SERIES => series(fd),
-        _ => overview(fd),
+        SHOW => show(system, to),
+        PICTURE => picture(system, to),
+        NAME => name(system, to),
+        WHY => why(system, to),
+        REPLAY => replay(system, to),
+        AUDIT => audit(system, to),
+        UNDO => undo(system, to),
+        FILE => file(system, to),
+        SERIES => series(system, to),
+        _ => overview(system, to),
     }
 }
 
 // Says how a command is used, or how the program is where there is no such command; false where that cannot be written.
-pub fn tell(fd: i32, command: u32) -> bool {
-    let mut out = io::buffer();
+pub fn tell(system: &System, to: Stream, command: u32) -> bool {
+    let mut out = system::buffer();
     let end = commands::put_usage(&mut out, 0, command, b"");
-    io::write_all(fd, text::part(&out, 0, end)) && write_text(fd, command)
+    system.write_to(to, text::part(&out, 0, end)) && write_text(system, to, command)
 }
 
-pub fn tell_version(fd: i32) -> bool {
-    io::write_all(fd, b"sindhopul ") && io::write_all(fd, &VERSION) && io::write_all(fd, b"\n")
+pub fn tell_version(system: &System, to: Stream) -> bool {
+    system.write_to(to, b"sindhopul ")
+        && system.write_to(to, &VERSION)
+        && system.write_to(to, b"\n")
 }

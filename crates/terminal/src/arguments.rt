@@ -1,5 +1,6 @@
 // The program's words: days, closes, months, prices, and the files that they name.
 use files::{Installed, Loaded};
+use system::System;
 use text::Parsed;
 
 // What a number is read as.
@@ -82,34 +83,38 @@ fn put_subject(out: &mut [u8], what: u8, word: &[u8]) -> usize {
 }
 
 // Says that a word is no such number, and how to write one.
-fn complain(what: u8, word: &[u8]) {
+fn complain(system: &System, what: u8, word: &[u8]) {
     let mut subject = [0u8; 4200];
     let end = put_subject(&mut subject, what, word);
     let mut advice = [0u8; 64];
     let n = put_advice(&mut advice, what, word);
-    files::complain(text::part(&subject, 0, end), text::part(&advice, 0, n));
+    files::complain(
+        system,
+        text::part(&subject, 0, end),
+        text::part(&advice, 0, n),
+    );
 }
 
 // Word i as a number; one that is none is complained of.
-pub fn number(i: usize, what: u8) -> Parsed {
-    let mut space = io::buffer();
-    let n = commands::word(i, &mut space);
+pub fn number(system: &System, i: usize, what: u8) -> Parsed {
+    let mut space = system::buffer();
+    let n = commands::word(system, i, &mut space);
     let word = text::part(&space, 0, n);
     let parsed = read(what, word);
     if let Parsed::Bad = parsed {
-        complain(what, word);
+        complain(system, what, word);
     }
     parsed
 }
 
 // Whether word i has a point, as a close in points has.
-pub fn has_point(i: usize) -> bool {
-    let mut space = io::buffer();
-    let n = commands::word(i, &mut space);
+pub fn has_point(system: &System, i: usize) -> bool {
+    let mut space = system::buffer();
+    let n = commands::word(system, i, &mut space);
     text::find(text::part(&space, 0, n), 0, b'.') < n
 }
 
-fn complain_length(path: &[u8], wanted: usize, found: usize) {
+fn complain_length(system: &System, path: &[u8], wanted: usize, found: usize) {
     let mut out = [0u8; 128];
     let end = phrases::fill(
         &mut out,
@@ -117,21 +122,21 @@ fn complain_length(path: &[u8], wanted: usize, found: usize) {
         b"the file has %n bytes and should have %n: if it was damaged, move it away and make it again",
         [text::narrowed(found), text::narrowed(wanted), 0, 0, 0, 0],
     );
-    files::complain(path, text::part(&out, 0, end));
+    files::complain(system, path, text::part(&out, 0, end));
 }
 
 // Whether a file was loaded with exactly the length of the buffer.
-pub fn is_whole(path: &[u8], buffer: &[u8], loaded: Loaded) -> bool {
+pub fn is_whole(system: &System, path: &[u8], buffer: &[u8], loaded: Loaded) -> bool {
     match loaded {
         Loaded::Bytes(n) => {
             if n == buffer.len() {
                 return true;
             }
-            complain_length(path, buffer.len(), n);
+            complain_length(system, path, buffer.len(), n);
             false
         }
         Loaded::Missing => {
-            files::complain(path, b"there is no such file");
+            files::complain(system, path, b"there is no such file");
             false
         }
         Loaded::Failed => false,
@@ -139,45 +144,45 @@ pub fn is_whole(path: &[u8], buffer: &[u8], loaded: Loaded) -> bool {
 }
 
 // Fills the buffer from the file that word i names.
-pub fn file(i: usize, buffer: &mut [u8]) -> bool {
-    let mut space = io::buffer();
-    let n = commands::word(i, &mut space);
+pub fn file(system: &System, i: usize, buffer: &mut [u8]) -> bool {
+    let mut space = system::buffer();
+    let n = commands::word(system, i, &mut space);
     let path = text::part(&space, 0, n);
-    let loaded = files::load(path, buffer);
-    is_whole(path, buffer, loaded)
+    let loaded = files::load(system, path, buffer);
+    is_whole(system, path, buffer, loaded)
 }
 
 // The text in the file that word i names, at the start of the buffer.
-pub fn text(i: usize, buffer: &mut [u8]) -> Loaded {
-    let mut space = io::buffer();
-    let n = commands::word(i, &mut space);
+pub fn text(system: &System, i: usize, buffer: &mut [u8]) -> Loaded {
+    let mut space = system::buffer();
+    let n = commands::word(system, i, &mut space);
     let path = text::part(&space, 0, n);
-    let loaded = files::load_text(path, buffer);
+    let loaded = files::load_text(system, path, buffer);
     if let Loaded::Missing = loaded {
-        files::complain(path, b"there is no such file");
+        files::complain(system, path, b"there is no such file");
     }
     loaded
 }
 
 // Replaces the file that word i names by these bytes.
-pub fn replace(i: usize, bytes: &[u8]) -> Installed {
-    let mut space = io::buffer();
-    let n = commands::word(i, &mut space);
-    files::replace(text::part(&space, 0, n), bytes)
+pub fn replace(system: &System, i: usize, bytes: &[u8]) -> Installed {
+    let mut space = system::buffer();
+    let n = commands::word(system, i, &mut space);
+    files::replace(system, text::part(&space, 0, n), bytes)
 }
 
 // The name of the file that word i leads to, put into `path`; 0 where that is trouble, which is told.
-pub fn followed(i: usize, path: &mut [u8]) -> usize {
-    let mut word = io::buffer();
-    let n = commands::word(i, &mut word);
-    files::follow(text::part(&word, 0, n), path)
+pub fn followed(system: &System, i: usize, path: &mut [u8]) -> usize {
+    let mut word = system::buffer();
+    let n = commands::word(system, i, &mut word);
+    files::follow(system, text::part(&word, 0, n), path)
 }
 
 // Fills a register from its file. One that is missing is empty.
-pub fn register_or_none(path: &[u8], register: &mut [u8]) -> bool {
-    let loaded = files::load(path, register);
+pub fn register_or_none(system: &System, path: &[u8], register: &mut [u8]) -> bool {
+    let loaded = files::load(system, path, register);
     if let Loaded::Missing = loaded {
         return true;
     }
-    is_whole(path, register, loaded)
+    is_whole(system, path, register, loaded)
 }

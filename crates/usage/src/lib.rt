@@ -2,7 +2,7 @@
 #![tactic(auto)]
 
 use commands::{COMMANDS, HELP, JOURNAL, LISTED, NO_FILE, UNKNOWN, VERSION, WITH_FILE};
-use libc::{STDERR_FILENO, STDOUT_FILENO};
+use system::{Stream, System};
 
 #[derive(Drop)]
 pub enum Words {
@@ -27,51 +27,83 @@ fn put_way(out: &mut [u8], at: usize, command: u32) -> usize {
 }
 
 // Says what was wrong: three texts, the name of a row of the table, a text; and how to go on. Answers that it does not fit.
-fn wrong(command: u32, a: &[u8], b: &[u8], c: &[u8], place: u32, d: &[u8]) -> bool {
+fn wrong(
+    system: &System,
+    command: u32,
+    a: &[u8],
+    b: &[u8],
+    c: &[u8],
+    place: u32,
+    d: &[u8],
+) -> bool {
     let mut out = [0u8; 8192];
-    let at = commands::put_lead(&mut out, 0);
+    let at = commands::put_lead(system, &mut out, 0);
     let at = text::put(&mut out, at, a);
     let at = text::put(&mut out, at, b);
     let at = text::put(&mut out, at, c);
     let at = commands::put_name(&mut out, at, place);
     let at = text::put(&mut out, at, d);
     let end = put_way(&mut out, at, command);
-    io::write_all(STDERR_FILENO, text::part(&out, 0, end));
+    system.write_to(Stream::Error, text::part(&out, 0, end));
     false
 }
 
 // The same with a suggestion, where there is one.
-fn unknown(command: u32, what: &[u8], word: &[u8], near: u32, end: u32) -> bool {
+fn unknown(system: &System, command: u32, what: &[u8], word: &[u8], near: u32, end: u32) -> bool {
     if near < end {
-        return wrong(command, what, word, b": did you mean ", near, b"?");
+        return wrong(system, command, what, word, b": did you mean ", near, b"?");
     }
-    wrong(command, what, word, b"", LISTED, b"")
+    wrong(system, command, what, word, b"", LISTED, b"")
 }
 
-fn no_command(word: &[u8]) -> bool {
+fn no_command(system: &System, word: &[u8]) -> bool {
     if word.len() == 0 {
-        return wrong(COMMANDS, b"a command is missing", b"", b"", LISTED, b"");
+        return wrong(
+            system,
+            COMMANDS,
+            b"a command is missing",
+            b"",
+            b"",
+            LISTED,
+            b"",
+        );
     }
     let near = commands::nearest_command(word);
-    unknown(near, b"there is no command ", word, near, COMMANDS)
+    unknown(system, near, b"there is no command ", word, near, COMMANDS)
 }
 
-fn wrong_option(command: u32, word: &[u8]) -> bool {
+fn wrong_option(system: &System, command: u32, word: &[u8]) -> bool {
     let option = commands::letter(word);
     if option == UNKNOWN {
         let near = commands::nearest_option(text::part(word, 0, text::find(word, 0, b'=')));
-        return unknown(command, b"there is no option ", word, near, LISTED);
+        return unknown(system, command, b"there is no option ", word, near, LISTED);
     }
     if commands::takes(command, option) {
-        return wrong(command, word, b" stands there twice", b"", LISTED, b"");
+        return wrong(
+            system,
+            command,
+            word,
+            b" stands there twice",
+            b"",
+            LISTED,
+            b"",
+        );
     }
     let mut out = [0u8; 4200];
     let at = text::put(&mut out, 0, b" takes no ");
     let end = text::put(&mut out, at, word);
-    wrong(command, b"", b"", b"", command, text::part(&out, 0, end))
+    wrong(
+        system,
+        command,
+        b"",
+        b"",
+        b"",
+        command,
+        text::part(&out, 0, end),
+    )
 }
 
-fn missing(command: u32, form: u32, n: usize) -> bool {
+fn missing(system: &System, command: u32, form: u32, n: usize) -> bool {
     let mut out = [0u8; 128];
     let at = commands::put_name(&mut out, 0, form);
     let at = text::put(&mut out, at, b" wants");
@@ -81,10 +113,18 @@ fn missing(command: u32, form: u32, n: usize) -> bool {
     let form = lines::line(b": 1 word is missing\n: %n words are missing", words);
     let m = phrases::fill(&mut count, 0, form, [text::narrowed(n), 0, 0, 0, 0, 0]);
     let wanted = text::part(&out, 0, end);
-    wrong(command, wanted, text::part(&count, 0, m), b"", LISTED, b"")
+    wrong(
+        system,
+        command,
+        wanted,
+        text::part(&count, 0, m),
+        b"",
+        LISTED,
+        b"",
+    )
 }
 
-fn too_many(command: u32, most: usize, n: usize) -> bool {
+fn too_many(system: &System, command: u32, most: usize, n: usize) -> bool {
     let mut out = [0u8; 64];
     let count = text::narrowed(n);
     let end = phrases::fill(
@@ -93,10 +133,11 @@ fn too_many(command: u32, most: usize, n: usize) -> bool {
         b"%n word%s too many, from ",
         [count, count, 0, 0, 0, 0],
     );
-    let mut space = io::buffer();
-    let m = commands::word(most, &mut space);
+    let mut space = system::buffer();
+    let m = commands::word(system, most, &mut space);
     let first = text::part(&space, 0, m);
     wrong(
+        system,
         command,
         text::part(&out, 0, end),
         first,
@@ -107,43 +148,48 @@ fn too_many(command: u32, most: usize, n: usize) -> bool {
 }
 
 // Whether there are as many words as some form of the command wants.
-fn words_fit(command: u32) -> bool {
-    let words = commands::count();
+fn words_fit(system: &System, command: u32) -> bool {
+    let words = commands::count(system);
     let form = commands::form(command, words);
     let least = commands::least(form);
     let most = commands::most(form);
     if words < least {
-        return missing(command, form, least - words);
+        return missing(system, command, form, least - words);
     }
     if most < words {
-        return too_many(command, most, words - most);
+        return too_many(system, command, most, words - most);
     }
     true
 }
 
 // Whether word i is this one.
-fn is(i: usize, what: &[u8]) -> bool {
-    let mut space = io::buffer();
-    let n = commands::word(i, &mut space);
+fn is(system: &System, i: usize, what: &[u8]) -> bool {
+    let mut space = system::buffer();
+    let n = commands::word(system, i, &mut space);
     text::same(text::part(&space, 0, n), what)
 }
 
 // Whether word i is a dash where only a file may stand.
-fn lacks_file(command: u32, i: usize) -> bool {
-    is(i, b"-") && commands::kind(command, i) != NO_FILE && !commands::takes_stream(command, i)
+fn lacks_file(system: &System, command: u32, i: usize) -> bool {
+    is(system, i, b"-")
+        && commands::kind(command, i) != NO_FILE
+        && !commands::takes_stream(command, i)
 }
 
-fn is_value_dash(option: u8) -> bool {
-    let mut space = io::buffer();
-    let n = commands::value(option, &mut space);
+fn is_value_dash(system: &System, option: u8) -> bool {
+    let mut space = system::buffer();
+    let n = commands::value(system, option, &mut space);
     text::same(text::part(&space, 0, n), b"-")
 }
 
 // Whether each word that is a dash may stand for a standard stream.
-fn files_fit(command: u32) -> bool {
-    let lacks_one = lacks_file(command, 2) || lacks_file(command, 3) || lacks_file(command, 4);
-    if lacks_one || is_value_dash(JOURNAL) || is_value_dash(WITH_FILE) {
+fn files_fit(system: &System, command: u32) -> bool {
+    let lacks_one = lacks_file(system, command, 2)
+        || lacks_file(system, command, 3)
+        || lacks_file(system, command, 4);
+    if lacks_one || is_value_dash(system, JOURNAL) || is_value_dash(system, WITH_FILE) {
         return wrong(
+            system,
             command,
             b"- is a standard stream: ",
             b"",
@@ -155,16 +201,17 @@ fn files_fit(command: u32) -> bool {
     true
 }
 
-fn options_fit(command: u32) -> bool {
-    let at = commands::wrong_option(command);
-    let mut space = io::buffer();
-    let n = os::arg(at, &mut space);
+fn options_fit(system: &System, command: u32) -> bool {
+    let at = commands::wrong_option(system, command);
+    let mut space = system::buffer();
+    let n = system.argument(at, &mut space);
     if 0 < n {
-        return wrong_option(command, text::part(&space, 0, n));
+        return wrong_option(system, command, text::part(&space, 0, n));
     }
-    let lacking = commands::lacking_value();
+    let lacking = commands::lacking_value(system);
     if lacking < LISTED {
         return wrong(
+            system,
             command,
             b"",
             b"",
@@ -176,33 +223,33 @@ fn options_fit(command: u32) -> bool {
     true
 }
 
-fn fits(command: u32) -> bool {
-    options_fit(command) && words_fit(command) && files_fit(command)
+fn fits(system: &System, command: u32) -> bool {
+    options_fit(system, command) && words_fit(system, command) && files_fit(system, command)
 }
 
-fn said(is_written: bool) -> bool {
+fn said(system: &System, is_written: bool) -> bool {
     if !is_written {
-        os::fail(b"the answer could not be written");
+        system.fail(b"the answer could not be written");
     }
     is_written
 }
 
 // Help on the command that word i names, or on all where there is no such word.
-fn help_on(i: usize) -> bool {
-    let mut space = io::buffer();
-    let n = commands::word(i, &mut space);
+fn help_on(system: &System, i: usize) -> bool {
+    let mut space = system::buffer();
+    let n = commands::word(system, i, &mut space);
     let word = text::part(&space, 0, n);
     let command = commands::named(word);
-    if command == COMMANDS && n != 0 && !is(i, b"help") {
-        return no_command(word);
+    if command == COMMANDS && n != 0 && !is(system, i, b"help") {
+        return no_command(system, word);
     }
-    said(help::tell(STDOUT_FILENO, command))
+    said(system, help::tell(system, Stream::Output, command))
 }
 
-fn no_such_command() -> bool {
-    let mut space = io::buffer();
-    let n = commands::word(1, &mut space);
-    no_command(text::part(&space, 0, n))
+fn no_such_command(system: &System) -> bool {
+    let mut space = system::buffer();
+    let n = commands::word(system, 1, &mut space);
+    no_command(system, text::part(&space, 0, n))
 }
 
 fn helped(is_said: bool) -> Words {
@@ -213,26 +260,26 @@ fn helped(is_said: bool) -> Words {
 }
 
 // The command that the words name, where they are as it takes them; all else is told here.
-pub fn first_words() -> Words {
-    if os::arg_count() < 2 {
-        help::tell(STDERR_FILENO, COMMANDS);
+pub fn first_words(system: &System) -> Words {
+    if system.argument_count() < 2 {
+        help::tell(system, Stream::Error, COMMANDS);
         return Words::Wrong;
     }
-    if commands::has(VERSION) {
-        return helped(said(help::tell_version(STDOUT_FILENO)));
+    if commands::has(system, VERSION) {
+        return helped(said(system, help::tell_version(system, Stream::Output)));
     }
-    if is(1, b"help") {
-        return helped(help_on(2));
+    if is(system, 1, b"help") {
+        return helped(help_on(system, 2));
     }
-    if commands::has(HELP) {
-        return helped(help_on(1));
+    if commands::has(system, HELP) {
+        return helped(help_on(system, 1));
     }
-    let command = commands::command();
+    let command = commands::command(system);
     if command == COMMANDS {
-        no_such_command();
+        no_such_command(system);
         return Words::Wrong;
     }
-    if fits(command) {
+    if fits(system, command) {
         return Words::Go(command);
     }
     Words::Wrong
