@@ -6,7 +6,7 @@ use layout::MOST_WAITING;
 use phrases::fill;
 
 // What a start or a session answers: how many rows it added and removed, and how many are listed now.
-#[derive(Drop)]
+#[derive(Clone, Copy)]
 pub struct Totals {
     pub added: u32,
     pub removed: u32,

@@ -2,7 +2,7 @@
 use phrases::fill;
 
 // How a month stands in a register, with how many of its rows are new on the register's day.
-#[derive(Drop)]
+#[derive(Clone, Copy)]
 pub struct Ladder {
     pub tier: u32,
     pub low: u32,
