@@ -7,7 +7,7 @@ const TOP: u32 = 1700;
 const BOTTOM: u32 = 11000;
 
 // The lowest and the highest price of all rows.
-#[derive(Drop)]
+#[derive(Clone, Copy)]
 pub struct Scale {
     pub low: u32,
     pub high: u32,
