@@ -2,7 +2,7 @@
 
 // How many tiers have the price on their grid: each grid has all prices of the next coarser one, so that tier t has it
 // if t is below that. The month's tier, expiry date and span are those of the register's day.
-#[derive(Drop)]
+#[derive(Clone, Copy)]
 pub struct Case {
     pub month: u32,
     pub price: u32,
