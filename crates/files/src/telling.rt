@@ -1,7 +1,7 @@
 // What is told on standard error: a line with the file and what is the matter.
 use system::{
-    EACCES, EDQUOT, EFBIG, EIO, EISDIR, ELOOP, ENAMETOOLONG, ENOENT, ENOSPC, ENOTDIR, EPERM, EROFS,
-    Stream, System,
+    EACCES, EDQUOT, EFBIG, EILSEQ, EIO, EISDIR, ELOOP, ENAMETOOLONG, ENOENT, ENOSPC, ENOTDIR,
+    EPERM, EROFS, Stream, System,
 };
 
 // Room for what an error begins with.
@@ -34,6 +34,7 @@ fn reason_by_name(out: &mut [u8], error: i32) -> usize {
         EISDIR => text::put(out, 0, b"Is a directory"),
         ENAMETOOLONG => text::put(out, 0, b"File name too long"),
         ELOOP => text::put(out, 0, b"Too many levels of symbolic links"),
+        EILSEQ => text::put(out, 0, b"Invalid or incomplete multibyte or wide character"),
         _ => 0,
     }
 }

@@ -1,4 +1,5 @@
-use Rattle.std.proofs.Common.{length, ◌-◌, ◌≤◌, IfOk, IfSome, ◌≡◌, ℕ, ◌+◌, ◌*◌, ◌<◌}
+-- `system::System::read_full` ends: each read that goes on fills some of the buffer. Assumes nothing.
+use Rattle.std.proofs.Common.{length, ◌-◌, ◌≤◌}
 use Rattle.system.proofs.System.read_full.Given as goal
 
 abbrev pub invariant-loop-done : goal.invariant-loop-done
