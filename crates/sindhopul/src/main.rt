@@ -1,21 +1,46 @@
 // The console program: what its arguments ask. Its exit status is what `console::run` answers.
 #![tactic(auto)]
 
+use commands::{AUDIT, JOURNAL, REPLAY, SERIES, UNDO};
+use space::JOURNAL_LENGTH;
 use std::process::ExitCode;
-use system::{Stream, System};
-use terminal::TROUBLE;
+use system::System;
+use terminal::{DONE, REFUSED};
 
 // Room for the file of series that names them all, 5 bytes and 15 for each of 1,200 months, two types and 507 prices: more
 // than a stack has.
 const ROOM: usize = 5 + 15 * 1200 * 2 * 507;
 
+// How much room the command takes. Room costs time, so one that reads neither a journal nor a file of series gets none.
+fn room_length(system: &System) -> usize {
+    match commands::command(system) {
+        SERIES => ROOM,
+        REPLAY | AUDIT | UNDO => JOURNAL_LENGTH,
+        _ => if commands::has(system, JOURNAL) {
+            JOURNAL_LENGTH
+        } else {
+            0
+        },
+    }
+}
+
+fn exit(status: i32) -> ExitCode {
+    match status {
+        DONE => ExitCode::from(0),
+        REFUSED => ExitCode::from(1),
+        _ => ExitCode::from(2),
+    }
+}
+
 fn main(rt: HostRuntime) -> ExitCode {
-    let made = vec![in rt.alloc(); 0u8; ROOM];
     let system = System::new(rt);
-    let Ok(mut room) = made else {
-        system.write_to(Stream::Error, b"sindhopul: there is no room for a file of series\n");
-        return ExitCode::from(TROUBLE as u8);
+    let Ok(mut room) = vec![in rt.alloc(); 0u8; room_length(&system)] else {
+        files::complain(
+            &system,
+            b"sindhopul",
+            b"there is no memory for the file that it is to read",
+        );
+        return ExitCode::from(2);
     };
-    let status = console::run(&system, &mut room);
-    ExitCode::from(status as u8)
+    exit(console::run(&system, &mut room))
 }
