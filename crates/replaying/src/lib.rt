@@ -48,6 +48,7 @@ fn all_calls(kinds: &[u8], counts: &[u8], pool: &[[u32; 2]]) -> bool
 }
 
 // Whether each call of the journal has its pairs and a place for its number.
+#[tactic(auto, unfolding(crate::specs::Journal::well_kept))]
 fn well_kept(kinds: &[u8], counts: &[u8], pool: &[[u32; 2]], numbers: &[u16]) -> bool
     ensures { result ≡ well_kept kinds.now counts.now pool.now numbers.now }
 {
@@ -60,6 +61,7 @@ fn well_kept(kinds: &[u8], counts: &[u8], pool: &[[u32; 2]], numbers: &[u16]) ->
     all_calls(kinds, counts, pool)
 }
 
+#[tactic(auto, unfolding(crate::specs::Journal::is_empty))]
 fn is_empty(register: &[u8]) -> bool
     ensures { result ≡ is_empty register.now }
 {
