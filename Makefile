@@ -40,10 +40,13 @@ build/archives/liblookup.a: $(SOURCES)
 	@mkdir -p build/archives
 	cp crates/lookup_c/out/liblookup_c.a $@
 
-build/sindhopul: $(SOURCES)
+# The C functions behind the files are the kit's.
+KIT = "$$(dirname "$$(rt doc)")"
+
+build/sindhopul: $(SOURCES) program/limits.c
 	cd crates/sindhopul && rt run -- --version
 	@mkdir -p build
-	cp crates/sindhopul/out/sindhopul $@
+	$(CC) -O2 -Wall -Wextra -o $@ crates/sindhopul/out/sindhopul.o program/limits.c $(KIT)/c/libos_c.a $(KIT)/c/liblibc_c.a
 
 build/lib/libsindhopul.a: build/archives/libcapi.a
 	@mkdir -p build/lib
