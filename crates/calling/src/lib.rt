@@ -9,6 +9,7 @@ ghost use Rattle.calls.specs.Answers.{of_listed, of_told, called_at, after_calle
 use calls::{Answer, Called, KINDS, Listed, SESSION, START, Told};
 
 // Whether a kind and pairs are those of a call: each kind has one pair.
+#[tactic(auto, using(crate::proofs::CallLaws::no_kind, crate::proofs::CallLaws::kind_fits))]
 pub fn is_call(kind: u8, pairs: &[[u32; 2]]) -> bool
     ensures { result ≡ is_call (call_of kind pairs.now) }
 {

@@ -20,7 +20,7 @@ use Rattle.rules.proofs.RulebookLaws.{live_le}
 use Rattle.register.specs.Check.{causes_at}
 use Rattle.layout.specs.Spans.{span_in}
 use Rattle.register.proofs.Waiting.{place_le, place-elem, span_place}
-use Rattle.register.proofs.refusal.Goals.{After-live_place-i, Else-i-eq6, Else-live-next, After-on_grid, Else-not-on_grid}
+use Rattle.register.proofs.refusal.Goals.{After-live_place-i, Else-i-eq6, After-on_grid, Else-not-on_grid}
 use Rattle.register.proofs.refusal.Goals as goal
 
 live : (c : After-live_place-i) →
@@ -59,12 +59,12 @@ month-le c =
     let s = c.before.before.before in
     live_le s.args.first s.args.month s.requires.0 (is_live c)
 
-not-expired : (c : Else-live-next) →
+not-expired : (c : After-on_grid) →
     let a = c.args in
     ltb a.month a.next ≡ false
 not-expired c =
     let a = c.args in
-    le-ltb a.month a.next c.if-live-next.false
+    le-ltb a.month a.next (omega arith)
 
 on-grid : (c : After-on_grid) →
     let a = c.args in
@@ -86,7 +86,7 @@ by_span c =
     rw (
       le-ltb last_first_month c.args.next c.if-next-gt-LAST_FIRST_MONTH.false,
       is_live c.before.before.before.before,
-      not-expired c.before.before.before,
+      not-expired c.before,
       is-on c,
     )
 
@@ -119,7 +119,7 @@ returns-then-not-on_grid c =
     rw (
       le-ltb last_first_month c.args.next c.if-next-gt-LAST_FIRST_MONTH.false,
       is_live (goal.at.returns-then-not-on_grid c).Else-i-eq6,
-      not-expired (goal.at.returns-then-not-on_grid c).Else-live-next,
+      not-expired (goal.at.returns-then-not-on_grid c).After-on_grid,
       sym (on-grid (goal.at.returns-then-not-on_grid c).After-on_grid) ∙ c.if-not-on_grid.true,
     )
 
