@@ -15,8 +15,8 @@ from textwrap import wrap
 
 ROOT = os.path.dirname(os.path.dirname(os.path.abspath(__file__)))
 PICTURE = os.path.join(ROOT, "docs", "architecture.svg")
-# The toolchain's library over C functions, whose contracts are assumed.
-FOREIGN = {"io"}
+# The crate over std's files, streams, arguments and clock; what they do no contract says.
+FOREIGN = {"system"}
 
 # Where bands begin, chips begin and bands end; a letter of a chip, a chip's height, a row's; how far apart the arrows' lanes are.
 LEFT, CHIPS, RIGHT = 20, 262, 820
@@ -102,7 +102,7 @@ def picture(layers, deps):
             out.append(f"<text x='{LEFT + 14}' y='{top + 43 + 16 * i}'>{escape(line)}</text>")
         first = top + (height - rows * ROW + ROW - CHIP) / 2
         for crate, x, row, wide in chips:
-            kind = "f" if FOREIGN & set(deps[crate]) else "k"
+            kind = "f" if FOREIGN & {crate, *deps[crate]} else "k"
             above = first + row * ROW
             title = "uses " + " ".join(deps[crate]) if deps[crate] else "uses no other crate"
             out.append(f"<g><title>{crate} {title}</title><rect class='{kind}' x='{x:.1f}' y='{above:.1f}' width='{wide:.1f}' height='{CHIP}' rx='4'/>"

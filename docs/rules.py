@@ -92,7 +92,7 @@ def contracts(reading, known):
         crate, _, function = entry.rpartition("::")
         sources = [read(path) for path in paths(f"crates/{crate or 'capi'}/src/*.rt")]
         heads = [(text, match.group(1)) for text in sources
-                 for match in re.finditer(rf"\bfn {function}\b(.*?)\n *{{\n", text, re.S) if " ensures " in match.group(1)]
+                 for match in re.finditer(rf"\bfn {function}\b((?:(?!\bfn ).)*?)\n *{{\n", text, re.S) if " ensures " in match.group(1)]
         if len(heads) != 1:
             fault(f"READING.md: `{entry}` is no function with a contract")
             continue
