@@ -179,7 +179,13 @@ fn why(system: &System, calendar: &[u8], register: &[u8]) -> i32 {
         if series.number != 0 {
             return refuse_name(system, series.number, series.month);
         }
-        return explain(system, calendar, register, series.month as u32, series.price as u32);
+        return explain(
+            system,
+            calendar,
+            register,
+            series.month as u32,
+            series.price as u32,
+        );
     }
     let Parsed::Number(month) = terminal::number(system, 4, terminal::MONTH) else {
         return TROUBLE;

@@ -22,7 +22,8 @@ fn first(pairs: &[[u32; 2]]) -> [u32; 2] {
 }
 
 fn not_called(system: &System) -> i32 {
-    files::complain(system, 
+    files::complain(
+        system,
         b"the call",
         b"it was not made: no call has this kind and so many pairs",
     );
@@ -72,7 +73,8 @@ fn put_file(system: &System, out: &mut [u8], at: usize, after: &[u8], length: us
 }
 
 // What an accepted call did.
-fn tell(system: &System, 
+fn tell(
+    system: &System,
     kind: u8,
     pairs: &[[u32; 2]],
     totals: Totals,
@@ -84,18 +86,18 @@ fn tell(system: &System,
     let mut out = system::large_buffer();
     let pair = first(pairs);
     if kind == ANNOUNCE {
-        let end = report::announced(&mut out, 0, calendar, before, pair[0], pair[1], totals.added);
+        let end = report::announced(
+            &mut out,
+            0,
+            calendar,
+            before,
+            pair[0],
+            pair[1],
+            totals.added,
+        );
         return tell_moved(system, &out, end);
     }
-    let at = report::changes(
-        &mut out,
-        0,
-        calendar,
-        before,
-        after,
-        totals,
-        pair[1],
-    );
+    let at = report::changes(&mut out, 0, calendar, before, after, totals, pair[1]);
     let end = put_file(system, &mut out, at, after, length);
     tell_moved(system, &out, end)
 }
@@ -107,7 +109,8 @@ fn load_register(system: &System, kind: u8, path: &[u8], register: &mut [u8]) ->
         if kind == START {
             return true;
         }
-        files::complain(system, 
+        files::complain(
+            system,
             path,
             b"there is no such register: look at the name
   a lost one is made again by its journal: sindhopul replay CALENDAR JOURNAL REGISTER",
@@ -156,7 +159,8 @@ fn asks(system: &System, kind: u8, close: u32, added: u16, before: &[u8], after:
 
 // Keeps an accepted call whose new files are saved, and puts them in place. The journal has the line before the register has the
 // call: a run that is cut off between leaves a line that the same command, run again, finds there.
-fn carry_out(system: &System, 
+fn carry_out(
+    system: &System,
     kept: Kept,
     kind: u8,
     pairs: &[[u32; 2]],
@@ -172,7 +176,8 @@ fn carry_out(system: &System,
 }
 
 // Keeps a refused call, gives the locks back and tells the refusal.
-fn turn_down(system: &System, 
+fn turn_down(
+    system: &System,
     locks: Locks,
     kept: Kept,
     kind: u8,
@@ -189,14 +194,7 @@ fn turn_down(system: &System,
     filing::release(system, locks, beside, file_beside);
     if is_kept {
         let pair = first(pairs);
-        return refuse(system, 
-            calendar,
-            register,
-            number,
-            detail,
-            pair[0],
-            pair[1],
-        );
+        return refuse(system, calendar, register, number, detail, pair[0], pair[1]);
     }
     TROUBLE
 }
@@ -210,7 +208,8 @@ fn is_kept(kept: Kept) -> bool {
 }
 
 // An accepted call: asked about where it may be a slip, carried out, told.
-fn accept(system: &System, 
+fn accept(
+    system: &System,
     locks: Locks,
     kept: Kept,
     kind: u8,
@@ -241,7 +240,8 @@ fn accept(system: &System,
 }
 
 // A call that was answered: kept in the journal, if one is asked for and belongs to the register.
-fn settle(system: &System, 
+fn settle(
+    system: &System,
     locks: Locks,
     kind: u8,
     pairs: &[[u32; 2]],
@@ -259,7 +259,8 @@ fn settle(system: &System,
         return TROUBLE;
     }
     if answer.number != 0 {
-        return turn_down(system, 
+        return turn_down(
+            system,
             locks,
             kept,
             kind,
@@ -271,7 +272,8 @@ fn settle(system: &System,
             before,
         );
     }
-    accept(system, 
+    accept(
+        system,
         locks,
         kept,
         kind,
@@ -287,7 +289,8 @@ fn settle(system: &System,
 
 // The call on the register that this run has locked. A calendar or a register that cannot be used says nothing of the call,
 // so that it is refused and not kept.
-fn call_locked(system: &System, 
+fn call_locked(
+    system: &System,
     locks: Locks,
     kind: u8,
     pairs: &[[u32; 2]],
@@ -308,7 +311,8 @@ fn call_locked(system: &System,
         return not_called(system);
     };
     if 0 < answer.number && answer.number <= causes::REGISTER_FORM {
-        return turn_down(system, 
+        return turn_down(
+            system,
             locks,
             Kept::Unasked,
             kind,
@@ -320,7 +324,8 @@ fn call_locked(system: &System,
             &before,
         );
     }
-    settle(system, 
+    settle(
+        system,
         locks,
         kind,
         pairs,
@@ -334,7 +339,8 @@ fn call_locked(system: &System,
     )
 }
 
-fn lock_and_call(system: &System, 
+fn lock_and_call(
+    system: &System,
     kind: u8,
     pairs: &[[u32; 2]],
     calendar: &[u8],
@@ -345,7 +351,16 @@ fn lock_and_call(system: &System,
     let Some(locks) = filing::lock(system, beside, file_beside) else {
         return TROUBLE;
     };
-    call_locked(system, locks, kind, pairs, calendar, beside, file_beside, room)
+    call_locked(
+        system,
+        locks,
+        kind,
+        pairs,
+        calendar,
+        beside,
+        file_beside,
+        room,
+    )
 }
 
 // The day or month of a call.
@@ -393,7 +408,8 @@ pub fn make(system: &System, kind: u8, calendar: &[u8], room: &mut [u8]) -> i32 
         return TROUBLE;
     }
     let pairs = [[x, y]];
-    lock_and_call(system, 
+    lock_and_call(
+        system,
         kind,
         &pairs,
         calendar,
@@ -408,7 +424,14 @@ fn may_slip(system: &System, close: u32, before: &[u8], after: &[u8]) -> bool {
     !terminal::has_point(system, 5) || report::is_far(before, after, close)
 }
 
-fn foresee_asking(system: &System, out: &mut [u8], at: usize, close: u32, before: &[u8], after: &[u8]) -> usize {
+fn foresee_asking(
+    system: &System,
+    out: &mut [u8],
+    at: usize,
+    close: u32,
+    before: &[u8],
+    after: &[u8],
+) -> usize {
     if may_slip(system, close, before, after) {
         return text::put(
             out,
@@ -420,14 +443,29 @@ fn foresee_asking(system: &System, out: &mut [u8], at: usize, close: u32, before
 }
 
 // What the session would answer, and each row that it would add.
-fn foresee(system: &System, day: u32, close: u32, calendar: &[u8], before: &[u8], after: &mut [u8]) -> i32 {
+fn foresee(
+    system: &System,
+    day: u32,
+    close: u32,
+    calendar: &[u8],
+    before: &[u8],
+    after: &mut [u8],
+) -> i32 {
     let pairs = [[day, close]];
     let called = calling::call_by_kind(calendar, after, SESSION, &pairs);
     let Called::Answered(answer) = called else {
         return not_called(system);
     };
     if answer.number != 0 {
-        return refuse(system, calendar, before, answer.number, answer.first, day, close);
+        return refuse(
+            system,
+            calendar,
+            before,
+            answer.number,
+            answer.first,
+            day,
+            close,
+        );
     }
     let mut out = space::output();
     let totals = totals_of(&answer);

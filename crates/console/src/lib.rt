@@ -64,7 +64,9 @@ fn act(system: &System, command: u32, room: &mut [u8]) -> i32 {
         CALENDAR => answers::make_calendar(system),
         CHECK => answers::check(system),
         NAME => answers::name(system),
-        START | SESSION | ANNOUNCE | REPLAY | AUDIT | UNDO | SERIES => with_room(system, command, room),
+        START | SESSION | ANNOUNCE | REPLAY | AUDIT | UNDO | SERIES => with_room(
+            system, command, room,
+        ),
         _ => with_calendar(system, command),
     }
 }

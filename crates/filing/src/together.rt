@@ -52,12 +52,8 @@ fn lock_file(system: &System, register: File, beside: &[u8], file_beside: &[u8])
 
 // Makes both new files, or neither; none where they could not be had, which is told.
 pub fn lock(system: &System, beside: &[u8], file_beside: &[u8]) -> Option<Locks> {
-    let Some(register) = files::lock_first(
-        system,
-        files::replaced_by(beside),
-        beside,
-        file_beside,
-    ) else {
+    let Some(register) = files::lock_first(system, files::replaced_by(beside), beside, file_beside)
+    else {
         return None;
     };
     if file_beside.len() == 0 {
@@ -126,7 +122,15 @@ fn save_with_file(
         return Saved::Failed;
     }
     let bytes = text::part(&file, 0, written.length as usize);
-    save_both(system, opened, opened_file, beside, file_beside, register, bytes)
+    save_both(
+        system,
+        opened,
+        opened_file,
+        beside,
+        file_beside,
+        register,
+        bytes,
+    )
 }
 
 // Writes both new files and brings them to the disk.

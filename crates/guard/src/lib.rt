@@ -61,7 +61,8 @@ fn is_of_kind(system: &System, name: &[u8], wanted: u8, access: u8) -> bool {
 }
 
 fn complain_same(system: &System, name: &[u8]) {
-    files::complain(system, 
+    files::complain(
+        system,
         name,
         b"is also another file of this command, which would be overwritten: name another one",
     );
@@ -88,7 +89,9 @@ fn meet(system: &System, name: &[u8], other: &[u8]) -> Meeting {
     if new_end == 0 {
         return Meeting::Unknown;
     }
-    if files::is_same(system, name, other) || files::is_same(system, text::part(&new, 0, new_end), other) {
+    if files::is_same(system, name, other)
+        || files::is_same(system, text::part(&new, 0, new_end), other)
+    {
         return Meeting::Same;
     }
     Meeting::Apart

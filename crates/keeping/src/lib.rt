@@ -49,20 +49,29 @@ pub fn complain_answer(system: &System, path: &[u8], text: &[u8], calendar: &[u8
 }
 
 // Whether the whole lines that were run are a journal, with its start; where it is to begin it may be one without a call.
-fn is_journal(system: &System, path: &[u8], text: &[u8], calendar: &[u8], found: Found, begins: bool) -> bool {
+fn is_journal(
+    system: &System,
+    path: &[u8],
+    text: &[u8],
+    calendar: &[u8],
+    found: Found,
+    begins: bool,
+) -> bool {
     if found.bad != 0 {
         complain_line(system, path, text, found.bad);
         return false;
     }
     if found.calls == 0 && !begins {
-        files::complain(system, 
+        files::complain(
+            system,
             path,
             b"it has no call: it is no journal, or its start was taken back",
         );
         return false;
     }
     if found.calls != 0 && !found.begins {
-        files::complain(system, 
+        files::complain(
+            system,
             path,
             b"its first call is no start: it is not the whole journal of a register",
         );
@@ -109,7 +118,14 @@ fn complain_cut(system: &System, path: &[u8]) {
 }
 
 // The register is not what the journal gives.
-fn complain_apart(system: &System, path: &[u8], calendar: &[u8], given: &[u8], register: &[u8], is_passed: bool) {
+fn complain_apart(
+    system: &System,
+    path: &[u8],
+    calendar: &[u8],
+    given: &[u8],
+    register: &[u8],
+    is_passed: bool,
+) {
     let mut calendar_name = system::buffer();
     let c = commands::word(system, 2, &mut calendar_name);
     let mut register_name = system::buffer();
@@ -145,7 +161,8 @@ pub fn is_before_last(text: &[u8], calendar: &[u8], register: &[u8], found: Foun
     text::same(&given, register)
 }
 
-fn stand(system: &System, 
+fn stand(
+    system: &System,
     path: &[u8],
     text: &[u8],
     calendar: &[u8],
@@ -180,7 +197,8 @@ pub fn is_lines(system: &System, path: &[u8], bytes: &[u8]) -> bool {
     }
     let end = journal::whole(bytes).len();
     if !journal::is_cut(text::part(bytes, end, bytes.len())) {
-        files::complain(system, 
+        files::complain(
+            system,
             path,
             b"its last line lacks its line feed and is no call: end it or take it away",
         );
@@ -191,7 +209,8 @@ pub fn is_lines(system: &System, path: &[u8], bytes: &[u8]) -> bool {
 
 // How a register stands to the bytes of its journal, a last line that was cut off left out. Where the journal is to begin it
 // may be without a call.
-pub fn judge(system: &System, 
+pub fn judge(
+    system: &System,
     path: &[u8],
     bytes: &[u8],
     calendar: &[u8],

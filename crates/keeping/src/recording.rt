@@ -29,7 +29,8 @@ fn is_last(found: Found, kind: u8, pairs: &[[u32; 2]]) -> bool {
 }
 
 // The journal is ahead of the register by its last call: this one, or another that is to be completed first.
-fn ahead(system: &System, 
+fn ahead(
+    system: &System,
     path: &[u8],
     text: &[u8],
     found: Found,
@@ -38,7 +39,8 @@ fn ahead(system: &System,
     number: u16,
 ) -> Kept {
     if number == 0 && is_last(found, kind, pairs) {
-        files::note(system, 
+        files::note(
+            system,
             path,
             b"has this call already, from a run that was cut off before it wrote the register",
         );
@@ -49,7 +51,8 @@ fn ahead(system: &System,
 }
 
 // The text has `size` bytes in the file, and a line feed more where that was lacking.
-fn judged(system: &System, 
+fn judged(
+    system: &System,
     path: &[u8],
     text: &[u8],
     size: usize,
@@ -73,11 +76,19 @@ fn judged(system: &System,
 }
 
 // Only a start may do without its journal: it makes one.
-fn missing(system: &System, path: &[u8], calendar: &[u8], register: &[u8], kind: u8, pairs: &[[u32; 2]]) -> Kept {
+fn missing(
+    system: &System,
+    path: &[u8],
+    calendar: &[u8],
+    register: &[u8],
+    kind: u8,
+    pairs: &[[u32; 2]],
+) -> Kept {
     if kind == START {
         return judged(system, path, b"", 0, calendar, register, kind, pairs, 0);
     }
-    files::complain(system, 
+    files::complain(
+        system,
         path,
         b"there is no such journal: look at the name
   only start makes one; a lost one comes from a backup, or its calls are written by hand, one a line",
@@ -88,7 +99,8 @@ fn missing(system: &System, path: &[u8], calendar: &[u8], register: &[u8], kind:
 // Room for a line more.
 const LINE: usize = 128;
 
-fn look_at(system: &System, 
+fn look_at(
+    system: &System,
     path: &[u8],
     size: usize,
     calendar: &[u8],
@@ -99,11 +111,16 @@ fn look_at(system: &System,
     room: &mut [u8],
 ) -> Kept {
     if room.len() <= LINE || room.len() - LINE < size {
-        files::complain(system, path, b"it is full: a journal has 4,194,304 bytes at most");
+        files::complain(
+            system,
+            path,
+            b"it is full: a journal has 4,194,304 bytes at most",
+        );
         return Kept::Bad;
     }
     let length = journal::end_line(room, size);
-    judged(system, 
+    judged(
+        system,
         path,
         text::part(room, 0, length),
         size,
@@ -115,7 +132,8 @@ fn look_at(system: &System,
     )
 }
 
-fn look_in(system: &System, 
+fn look_in(
+    system: &System,
     path: &[u8],
     calendar: &[u8],
     register: &[u8],
@@ -126,7 +144,9 @@ fn look_in(system: &System,
 ) -> Kept {
     let loaded = files::load(system, path, room);
     match loaded {
-        Loaded::Bytes(n) => look_at(system, path, n, calendar, register, kind, pairs, number, room),
+        Loaded::Bytes(n) => look_at(
+            system, path, n, calendar, register, kind, pairs, number, room,
+        ),
         Loaded::Missing => missing(system, path, calendar, register, kind, pairs),
         Loaded::Failed => Kept::Bad,
     }
@@ -134,7 +154,8 @@ fn look_in(system: &System,
 
 // Looks whether the journal that is asked for belongs to the register, and where the line of a call with this number goes.
 // `room` is for the journal's text.
-pub fn look(system: &System, 
+pub fn look(
+    system: &System,
     calendar: &[u8],
     register: &[u8],
     kind: u8,
@@ -147,7 +168,8 @@ pub fn look(system: &System,
     }
     let mut path = system::buffer();
     let n = commands::value(system, JOURNAL, &mut path);
-    look_in(system, 
+    look_in(
+        system,
         text::part(&path, 0, n),
         calendar,
         register,
@@ -158,7 +180,8 @@ pub fn look(system: &System,
     )
 }
 
-fn write(system: &System, 
+fn write(
+    system: &System,
     kind: u8,
     pairs: &[[u32; 2]],
     answer: Answer,
@@ -172,7 +195,8 @@ fn write(system: &System,
     let feed = if lacks_feed { 1 } else { 0 };
     let at = text::put(&mut line, 0, text::part(b"\n", 0, feed));
     let end = journal::entry(&mut line, at, kind, pairs, answer);
-    files::keep_line(system, 
+    files::keep_line(
+        system,
         text::part(&path, 0, n),
         whole,
         size,

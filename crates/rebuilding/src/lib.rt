@@ -35,7 +35,8 @@ fn replay(
     replaying::replay(calendar, kinds, counts, pool, register, &mut numbers[0..n])
 }
 
-fn run_calls(system: &System, 
+fn run_calls(
+    system: &System,
     path: &[u8],
     calendar: &[u8],
     kinds: &[u8],
@@ -47,11 +48,13 @@ fn run_calls(system: &System,
     let outcome = replay(calendar, kinds, counts, pool, register, &mut numbers);
     match outcome {
         Outcome::Done => true,
-        Outcome::NotEmpty => not_run(system, 
+        Outcome::NotEmpty => not_run(
+            system,
             path,
             b"it was not run: the register to begin with is not empty",
         ),
-        Outcome::Malformed => not_run(system, 
+        Outcome::Malformed => not_run(
+            system,
             path,
             b"it was not run: a call lacks a pair or the room for its number, or is none of the three",
         ),
@@ -65,7 +68,13 @@ fn complain_line(system: &System, path: &[u8], text: &[u8], line: u32, reason: R
 }
 
 // Runs the whole lines of a journal from an empty register. Answers false where that cannot be done; then it is told.
-pub fn rebuild(system: &System, path: &[u8], text: &[u8], calendar: &[u8], register: &mut [u8]) -> bool {
+pub fn rebuild(
+    system: &System,
+    path: &[u8],
+    text: &[u8],
+    calendar: &[u8],
+    register: &mut [u8],
+) -> bool {
     let mut kinds = space::call_bytes();
     let mut counts = space::call_bytes();
     let mut pool = space::pairs();
@@ -73,7 +82,8 @@ pub fn rebuild(system: &System, path: &[u8], text: &[u8], calendar: &[u8], regis
     match calls {
         Calls::Taken(taken) => {
             let n = taken.calls;
-            run_calls(system, 
+            run_calls(
+                system,
                 path,
                 calendar,
                 text::part(&kinds, 0, n),

@@ -12,7 +12,8 @@ fn name_of<'a>(path: &'a [u8], other: &'a [u8]) -> &'a [u8] {
 }
 
 // What is the matter, and the way on.
-fn put_way(system: &System, 
+fn put_way(
+    system: &System,
     out: &mut [u8],
     at: usize,
     path: &[u8],
@@ -53,7 +54,8 @@ fn put_way(system: &System,
     )
 }
 
-fn tell_difference(system: &System, 
+fn tell_difference(
+    system: &System,
     path: &[u8],
     text: &[u8],
     calendar: &[u8],
@@ -69,13 +71,22 @@ fn tell_difference(system: &System,
     );
     let at = audit::difference(&mut out, at, given, register);
     let at = text::put(&mut out, at, b"the journal: ");
-    let at = put_way(system, &mut out, at, path, text, calendar, given, register, found);
+    let at = put_way(
+        system, &mut out, at, path, text, calendar, given, register, found,
+    );
     let end = text::put_byte(&mut out, at, b'\n');
     say(system, Stream::Error, &out, end, REFUSED)
 }
 
 // Holds the register of word 4 against the one that is given.
-pub fn audit(system: &System, path: &[u8], text: &[u8], calendar: &[u8], given: &[u8], found: Found) -> i32 {
+pub fn audit(
+    system: &System,
+    path: &[u8],
+    text: &[u8],
+    calendar: &[u8],
+    given: &[u8],
+    found: Found,
+) -> i32 {
     let mut register = space::register();
     if !terminal::file(system, 4, &mut register) {
         return TROUBLE;

@@ -28,7 +28,14 @@ fn status_of(system: &System, path: &[u8], text: &[u8], calendar: &[u8], found: 
 }
 
 // The register that the whole lines of a journal give, put in place or held against another.
-fn with_register(system: &System, command: u32, path: &[u8], text: &[u8], calendar: &[u8], found: Found) -> i32 {
+fn with_register(
+    system: &System,
+    command: u32,
+    path: &[u8],
+    text: &[u8],
+    calendar: &[u8],
+    found: Found,
+) -> i32 {
     let mut register = space::register();
     if !rebuilding::rebuild(system, path, text, calendar, &mut register) {
         return TROUBLE;
@@ -74,7 +81,8 @@ pub fn run(system: &System, command: u32, calendar: &[u8], room: &mut [u8]) -> i
     let mut name = system::buffer();
     let end = commands::word(system, 3, &mut name);
     let length = journal::end_line(room, n);
-    with_bytes(system, 
+    with_bytes(
+        system,
         command,
         text::part(&name, 0, end),
         text::part(room, 0, length),

@@ -51,7 +51,8 @@ fn tell(system: &System, out: &mut [u8], at: usize, calendar: &[u8], register: &
 }
 
 // Puts the new register in place and tells it, behind the one that it replaced.
-fn put_in_place(system: &System, 
+fn put_in_place(
+    system: &System,
     opened: File,
     path: &[u8],
     beside: &[u8],
@@ -88,7 +89,8 @@ fn keep_as_it_is(system: &System, calendar: &[u8], register: &[u8]) -> i32 {
 }
 
 // Over the register that is there, locked by this run. One that is empty, as a missing one, has nothing to lose.
-fn replace_old(system: &System, 
+fn replace_old(
+    system: &System,
     opened: File,
     path: &[u8],
     beside: &[u8],
@@ -126,7 +128,8 @@ fn replace_named(system: &System, path: &[u8], calendar: &[u8], new: &[u8]) -> i
 // Writes the register that a journal gives to the file of word 4.
 pub fn replace(system: &System, journal: &[u8], calendar: &[u8], new: &[u8]) -> i32 {
     if layout::is_zero(new) {
-        files::complain(system, 
+        files::complain(
+            system,
             journal,
             b"none of its calls is accepted: it gives an empty register",
         );

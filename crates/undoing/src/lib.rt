@@ -59,13 +59,24 @@ fn tell(system: &System, line: &[u8], kind: u8, register: &[u8]) -> i32 {
 }
 
 // Puts the new register and then the new journal in place.
-fn install(system: &System, path: &[u8], beside: &[u8], journal: &[u8], journal_beside: &[u8]) -> Installed {
+fn install(
+    system: &System,
+    path: &[u8],
+    beside: &[u8],
+    journal: &[u8],
+    journal_beside: &[u8],
+) -> Installed {
     let installed = files::install(system, path, beside, b"");
     if let Installed::Failed = installed {
         files::discard(system, journal_beside);
         return installed;
     }
-    files::install(system, journal, journal_beside, b"the register did move back; ")
+    files::install(
+        system,
+        journal,
+        journal_beside,
+        b"the register did move back; ",
+    )
 }
 
 // Whether the journal still has as many bytes as were read of it: a call that was kept meanwhile would be lost.
@@ -74,12 +85,17 @@ fn is_as_read(system: &System, journal: &[u8], size: usize) -> bool {
     if file.size == text::narrowed(size) as i64 {
         return true;
     }
-    files::complain(system, journal, b"it was changed meanwhile: run the command again");
+    files::complain(
+        system,
+        journal,
+        b"it was changed meanwhile: run the command again",
+    );
     false
 }
 
 // Takes back a call that the register has: it becomes what the calls before give.
-fn take_back(system: &System, 
+fn take_back(
+    system: &System,
     opened: File,
     path: &[u8],
     beside: &[u8],
@@ -131,7 +147,8 @@ fn before_answer(line: &[u8]) -> usize {
 }
 
 // Takes back a call that the register has not, or has no longer: a run was cut off.
-fn strike_out(system: &System, 
+fn strike_out(
+    system: &System,
     opened: File,
     beside: &[u8],
     journal: &[u8],
@@ -155,14 +172,16 @@ fn strike_out(system: &System,
 
 fn nothing_accepted(system: &System, opened: File, beside: &[u8], journal: &[u8]) -> i32 {
     files::release(system, opened, beside);
-    files::complain(system, 
+    files::complain(
+        system,
         journal,
         b"none of its calls is accepted: there is nothing to take back",
     );
     TROUBLE
 }
 
-fn judged(system: &System, 
+fn judged(
+    system: &System,
     opened: File,
     path: &[u8],
     beside: &[u8],
@@ -180,7 +199,8 @@ fn judged(system: &System,
             if found.line == 0 {
                 return nothing_accepted(system, opened, beside, journal);
             }
-            take_back(system, 
+            take_back(
+                system,
                 opened,
                 path,
                 beside,
@@ -193,7 +213,16 @@ fn judged(system: &System,
             )
         }
         Standing::Ahead(found) => {
-            strike_out(system, opened, beside, journal, journal_beside, text, found, register)
+            strike_out(
+                system,
+                opened,
+                beside,
+                journal,
+                journal_beside,
+                text,
+                found,
+                register,
+            )
         }
         Standing::Bad => {
             files::release(system, opened, beside);
@@ -203,7 +232,8 @@ fn judged(system: &System,
 }
 
 // With the register that this run has locked, and the journal.
-fn with_files(system: &System, 
+fn with_files(
+    system: &System,
     opened: File,
     path: &[u8],
     beside: &[u8],
@@ -223,7 +253,8 @@ fn with_files(system: &System,
         return TROUBLE;
     }
     let length = journal::end_line(room, n);
-    judged(system, 
+    judged(
+        system,
         opened,
         path,
         beside,
@@ -249,7 +280,16 @@ fn lock(system: &System, path: &[u8], journal: &[u8], calendar: &[u8], room: &mu
     let Some(opened) = files::lock_first(system, path, beside, journal_beside) else {
         return TROUBLE;
     };
-    with_files(system, opened, path, beside, journal, journal_beside, calendar, room)
+    with_files(
+        system,
+        opened,
+        path,
+        beside,
+        journal,
+        journal_beside,
+        calendar,
+        room,
+    )
 }
 
 // `room` is for the journal's text.
@@ -266,7 +306,8 @@ pub fn undo(system: &System, calendar: &[u8], room: &mut [u8]) -> i32 {
     if end == 0 || journal_end == 0 {
         return TROUBLE;
     }
-    lock(system, 
+    lock(
+        system,
         text::part(&path, 0, end),
         text::part(&journal, 0, journal_end),
         calendar,
