@@ -1,9 +1,0 @@
--- `space::pairs` meets its contract. Its length is not computed.
--- Assumes nothing.
-use Rattle.std.proofs.Common.{ℕ, List, [], ◌∷◌}
-use mathlib.Core.Path.{sym}
-use Rattle.std.proofs.lemmas.List.{length-replicate}
-use Rattle.space.proofs.pairs.Goals as goal
-
-pub returns : goal.returns
-returns c = sym (length-replicate {0} {A = List ℕ} 65536 (0 ∷ 0 ∷ []))
