@@ -30,7 +30,7 @@ fn not_called(system: &System) -> i32 {
     TROUBLE
 }
 
-// The values beside the number of an accepted start or session.
+// The values beside the number of an accepted call, as those of a start or session.
 fn totals_of(answer: &Answer) -> Totals {
     Totals {
         added: answer.first as u32,
@@ -86,15 +86,9 @@ fn tell(
     let mut out = system::large_buffer();
     let pair = first(pairs);
     if kind == ANNOUNCE {
-        let end = report::announced(
-            &mut out,
-            0,
-            calendar,
-            before,
-            pair[0],
-            pair[1],
-            totals.added,
-        );
+        // its answer says first how many wait
+        let waiting = totals.added;
+        let end = report::announced(&mut out, 0, calendar, before, pair[0], pair[1], waiting);
         return tell_moved(system, &out, end);
     }
     let at = report::changes(&mut out, 0, calendar, before, after, totals, pair[1]);
@@ -469,9 +463,8 @@ fn foresee(
     }
     let mut out = space::output();
     let totals = totals_of(&answer);
-    let added = totals.added;
     let at = report::changes(&mut out, 0, calendar, before, after, totals, close);
-    let at = report::added(&mut out, at, after, added);
+    let at = report::added(&mut out, at, after, totals.added);
     let end = foresee_asking(system, &mut out, at, close, before, after);
     say(system, Stream::Output, &out, end, DONE)
 }
