@@ -23,7 +23,7 @@ const PERMISSIONS: u32 = 0o777;
 
 const WRITING: u32 = 0o222;
 
-// Where the system could not tell, neither `is_known` nor `is_there` holds and errno says why; where it told that there is
+// Where the system could not tell, neither `is_known` nor `is_there` holds and the error says why; where it told that there is
 // no such file, `is_known` alone holds. So whoever must not take trouble for a missing file asks `is_known` first.
 #[derive(Clone, Copy)]
 pub struct Attributes {
@@ -45,7 +45,7 @@ pub enum Link {
     To(usize),
     // The name is no link, or nothing has that name.
     No,
-    // The system could not tell; errno says why.
+    // The system could not tell; the error says why.
     Unknown,
 }
 

@@ -89,7 +89,7 @@ fn cut(system: &System, file: &File, path: &[u8], whole: usize, size: usize) -> 
     true
 }
 
-// Tells that a line could not be kept and was taken away again. errno is still that of the call that failed: one that does
+// Tells that a line could not be kept and was taken away again. The error is still that of the call that failed: one that does
 // not fail leaves it.
 fn tell_unkept(system: &System, path: &[u8], is_cut: bool) {
     if is_cut {

@@ -53,8 +53,8 @@ fn reason(out: &mut [u8], error: i32) -> usize {
     }
 }
 
-// Why the last call of the system failed. Looking at the command's words sets errno, so that errno is read first; where there
-// are no words for it, the system has the word and what the command changes is not looked at.
+// Why the last call of the system failed. Where there are no words for it here, the system has the word, and what the command
+// changes is not told.
 pub fn fail(system: &System, path: &[u8]) {
     let mut words = [0u8; REASON];
     let end = reason(&mut words, system.error());
@@ -65,7 +65,7 @@ pub fn fail(system: &System, path: &[u8]) {
     complain(system, path, text::part(&words, 0, end));
 }
 
-// What is the matter and why, where something was changed: no more than errno is looked at.
+// What is the matter and why, where something was changed: no more than the error is looked at.
 pub fn trouble(system: &System, path: &[u8], what: &[u8]) {
     system.write_to(Stream::Error, path);
     system.write_to(Stream::Error, b": ");

@@ -131,7 +131,8 @@ pub fn dress(system: &System, file: &File, path: &[u8]) -> bool {
     true
 }
 
-// Brings the new file to the disk and closes it. Where that fails it is taken away.
+// Brings the new file to the disk and closes it. Where it does not come to the disk it is taken away; std hands on nothing that
+// closing tells.
 pub fn finish(system: &System, file: File, beside: &[u8]) -> bool {
     if system.sync(&file) {
         return true;
