@@ -1,6 +1,7 @@
 # make test: everything that decides whether a change may land. make demo: a year's calls up to the session after a
 # quarterly expiry. make bench: every call of the C interface against an independent implementation.
-# make program: the console program, build/sindhopul. make lib: the library, static and shared, in build/lib.
+# make program: the console program, build/sindhopul. make lib: the library, static and shared, in build/lib. make archives: what
+# the tests link, in build/archives.
 # make install PREFIX=..: both, with header, pkg-config file and Warsaw's calendar. make compare-calendar: Warsaw's days
 # beside QuantLib's.
 .PHONY: test demo bench program lib archives install compare-calendar
