@@ -30,24 +30,21 @@ archives: build/archives/libcapi.a build/archives/liblookup.a
 # What the archives and the program are made of.
 SOURCES = crates.txt $(shell find crates -path '*/out' -prune -o \( -name '*.rt' -o -name '*.antt' \) -print)
 
-# rt proves what it builds, so it is asked only when something changed. The lookups' archive is the tests'.
+# What is built is proved first, so it is built only when something changed. The lookups' archive is the tests'.
 build/archives/libcapi.a: $(SOURCES)
-	cd crates/capi && rt lib
-	@mkdir -p build/archives
-	cp crates/capi/out/libcapi.a $@
+	tools/build capi $@
 
 build/archives/liblookup.a: $(SOURCES)
-	cd crates/lookup_c && rt lib
-	@mkdir -p build/archives
-	cp crates/lookup_c/out/liblookup_c.a $@
+	tools/build lookup_c $@
+
+build/sindhopul.o: $(SOURCES)
+	tools/build sindhopul $@
 
 # The C functions behind the files are the kit's.
 KIT = "$$(dirname "$$(rt doc)")"
 
-build/sindhopul: $(SOURCES) program/limits.c
-	cd crates/sindhopul && rt run -- --version
-	@mkdir -p build
-	$(CC) -O2 -Wall -Wextra -o $@ crates/sindhopul/out/sindhopul.o program/limits.c $(KIT)/c/libos_c.a $(KIT)/c/liblibc_c.a
+build/sindhopul: build/sindhopul.o program/limits.c
+	$(CC) -O2 -Wall -Wextra -o $@ $^ $(KIT)/c/libos_c.a $(KIT)/c/liblibc_c.a
 
 build/lib/libsindhopul.a: build/archives/libcapi.a
 	@mkdir -p build/lib
