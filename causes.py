@@ -492,43 +492,170 @@ def python_exports(table: Table, text: str) -> str:
 # Rattle
 
 
+def rattle_variant(cause: Cause) -> str:
+    """The variant of a cause, with the types of what is told beside it."""
+    types = ", ".join(value.type for value in cause.values)
+    return f"{cause.title()}({types})" if types else cause.title()
+
+
+def rattle_pattern(cause: Cause, held: str) -> str:
+    """The pattern of a cause; what is told beside it is held by this name."""
+    return f"Cause::{cause.title()}({held})" if cause.values else f"Cause::{cause.title()}"
+
+
+def rattle_value(cause: Cause, number: str) -> str:
+    """The variant that a number tells, without what is told beside it."""
+    return f"{cause.title()}({number})" if cause.values else cause.title()
+
+
 def rattle_causes(table: Table, _: str) -> str:
-    lines = [f"// The numbers of the causes. {MADE}"]
-    for cause in table.causes:
-        lines += ["", f"// {sentence(cause.words)}", f"pub const {cause.name}: u16 = {cause.number};"]
+    causes = table.causes
+    lines = [f"// The causes of refusals, each with what is told beside it. {MADE}"]
+    lines += [
+        "ghost use Rattle.std.specs.Prelude.{◌≡◌, ◌^◌, ◌<◌};",
+        "ghost use Rattle.base.specs.Numbers.{number_of, month_of, beside_of, NamesCause};",
+        "",
+        "use std::fmt;",
+        "use std::fmt::Display;",
+        "",
+        "#[derive(Clone, Copy, PartialEq, Eq, Debug)]",
+        "pub enum Cause {",
+    ]
+    for cause in causes:
+        lines += [f"    // {sentence(cause.words)}", f"    {rattle_variant(cause)},"]
+    lines += [
+        "}",
+        "",
+        "// A number that no cause has.",
+        "#[derive(Clone, Copy, PartialEq, Eq, Debug)]",
+        "pub struct NoCause;",
+        "",
+        "impl Cause {",
+        "    pub fn number(self) -> u16",
+        "        ensures { result ≡ number_of self }",
+        "    {",
+        "        match self {",
+    ]
+    lines += [f"            {rattle_pattern(cause, '_')} => {cause.number}," for cause in causes]
+    lines += [
+        "        }",
+        "    }",
+        "",
+        "    // The month that is told beside the number; 0 where none is.",
+        "    pub fn month(self) -> u16",
+        "        ensures { result ≡ month_of self }",
+        "    {",
+        "        match self {",
+        "            Cause::CalendarMonth(month) => month,",
+        "            _ => 0,",
+        "        }",
+        "    }",
+        "",
+        "    // The month or the place that is told beside the number; 0 where none is.",
+        "    pub fn beside(self) -> u32",
+        "        ensures { result ≡ beside_of self }",
+        "    {",
+        "        match self {",
+    ]
+    for cause in causes:
+        if cause.values:
+            value = cause.values[0]
+            told = value.name if value.type == "u32" else f"u32::from({value.name})"
+            lines += [f"            {rattle_pattern(cause, value.name)} => {told},"]
+    lines += [
+        "            _ => 0,",
+        "        }",
+        "    }",
+        "}",
+        "",
+        "impl TryFrom<u32> for Cause {",
+        "    type Error = NoCause;",
+        "",
+        "    ghost try_from_gives = { NamesCause };",
+        "",
+        "    // What is told beside a cause, no number tells.",
+        "    fn try_from(number: u32) -> Result<Cause, NoCause> {",
+        "        match number {",
+    ]
+    lines += [f"            {cause.number} => Ok(Cause::{rattle_value(cause, '0')})," for cause in causes]
+    lines += [
+        "            _ => Err(NoCause),",
+        "        }",
+        "    }",
+        "}",
+        "",
+        "impl Display for Cause {",
+        "    fn fmt<W: fmt::Write>(&self, f: &mut fmt::Formatter<W>) -> fmt::Result {",
+        "        f.write_str(match self {",
+    ]
+    for cause in causes:
+        head, words = f"            {rattle_pattern(cause, '_')} =>", f'"{cause.words}",'
+        fits = len(head) + 1 + len(words) <= WIDTH
+        lines += [f"{head} {words}"] if fits else [head, f"                {words}"]
+    lines += ["        })", "    }", "}"]
     return "\n".join(lines) + "\n"
 
 
-def rattle_words(table: Table, _: str) -> str:
-    """The words of all causes, a line each: 0 on the first, the lowest cause on the second, on the last what is none."""
-    words = {cause.number: cause.words for cause in table.causes}
-    first, last = min(words), max(words)
-    none = "no cause that there is"
-    texts = ["accepted", *(words.get(number, none) for number in range(first, last + 1)), none]
-    return f"""\
-// Each cause in words. {MADE}
+def rattle_numbers(table: Table, _: str) -> str:
+    causes = table.causes
+    names = ", ".join(cause.title() for cause in causes)
+    lines = [
+        f"-- The numbers of the causes, and what is told beside them. {MADE}",
+        "-- Assumes nothing.",
+        "use Rattle.std.specs.Prelude.{◌≡◌, ◌≢◌, ℕ, Result, Ok, Err, MatchResult}",
+        "use Rattle.base.specs.declared.causes.Cause.{Cause}",
+        f"use Rattle.base.specs.declared.causes.Cause.TheVariants.{{{names}}}",
+        "use Rattle.base.specs.declared.causes.NoCause.{NoCause}",
+        "",
+        "abbrev pub number_of : Cause → ℕ",
+    ]
+    lines += [f"number_of {antt_pattern(cause, '_')} = {cause.number}" for cause in causes]
+    lines += ["", "-- the month that a calendar's cause tells; 0 where none is told", "abbrev pub month_of : Cause → ℕ"]
+    for cause in causes:
+        held, month = ("month", "month") if cause.name == "CALENDAR_MONTH" else ("_", "0")
+        lines += [f"month_of {antt_pattern(cause, held)} = {month}"]
+    lines += ["", "-- the month or the place; 0 where nothing is told", "abbrev pub beside_of : Cause → ℕ"]
+    for cause in causes:
+        value = "value" if cause.values else "0"
+        lines += [f"beside_of {antt_pattern(cause, 'value')} = {value}"]
+    lines += [
+        "",
+        "-- the number that a result tells: its cause's, or 0",
+        "abbrev pub number_in : {A : Type 0} → Result A Cause → ℕ",
+        "number_in (Ok _) = 0",
+        "number_in (Err cause) = number_of cause",
+        "",
+        "-- what a number is read as: the cause that has it, or that none has it",
+        "abbrev pub NamesCause : ℕ → Result Cause NoCause → Type 0",
+        "NamesCause n r = MatchResult r (λ cause. number_of cause ≡ n) (λ _. (cause : Cause) → number_of cause ≢ n)",
+    ]
+    return "\n".join(lines) + "\n"
 
-// The line of a number: the lowest cause stands on the second line, what is none on the last.
-fn line_of(number: u32) -> u32 {{
-    if number == 0 {{
-        return 1;
-    }}
-    if {first} <= number {{
-        if number <= {last} {{
-            return number - {first - 2};
-        }}
-    }}
-    {len(texts)}
-}}
 
-pub fn in_words(out: &mut [u8], at: usize, number: u32) -> usize {{
-    let words = lines::line(
-        b"{chr(10).join(texts)}",
-        line_of(number),
-    );
-    text::put(out, at, words)
-}}
-"""
+def rattle_laws(table: Table, _: str) -> str:
+    names = ", ".join(cause.title() for cause in table.causes)
+    lines = [
+        f"-- No cause has the number 0, and a month is told beside 13 alone. {MADE}",
+        "-- Assumes nothing.",
+        "use mathlib.Core.Path.{◌≡◌, refl}",
+        "use Prim.Native.Nat.{◌≤◌}",
+        "use native.Mathlib.Omega.{arith}",
+        "use Rattle.base.specs.Numbers.{number_of, month_of}",
+        "use Rattle.base.specs.declared.causes.Cause.{Cause}",
+        f"use Rattle.base.specs.declared.causes.Cause.TheVariants.{{{names}}}",
+        "",
+        "pub number-from : (cause : Cause) → 11 ≤ number_of cause",
+    ]
+    lines += [f"number-from {antt_pattern(cause, '_')} = omega arith" for cause in table.causes]
+    lines += ["", "pub month-beside : (cause : Cause) → (number_of cause ≡ 13 → ⊥) → month_of cause ≡ 0"]
+    for cause in table.causes:
+        law = "absurd (other refl)" if cause.name == "CALENDAR_MONTH" else "refl"
+        lines += [f"month-beside {antt_pattern(cause, '_')} other = {law}"]
+    return "\n".join(lines) + "\n"
+
+
+def antt_pattern(cause: Cause, held: str) -> str:
+    return f"({cause.title()} {held})" if cause.values else cause.title()
 
 
 FILES: Dict[str, Callable[[Table, str], str]] = {
@@ -537,7 +664,8 @@ FILES: Dict[str, Callable[[Table, str], str]] = {
     "bindings/python/sindhopul/refusals.py": python_refusals,
     "bindings/python/sindhopul/__init__.py": python_exports,
     "crates/base/src/causes.rt": rattle_causes,
-    "crates/matching/src/cause.rt": rattle_words,
+    "crates/base/specs/Numbers.antt": rattle_numbers,
+    "crates/base/proofs/NumberLaws.antt": rattle_laws,
     "tests/host/tests/archives/run/calls.rs": host_calls,
     "independent/src/numbers.rs": independent_numbers,
 }

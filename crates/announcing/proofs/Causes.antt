@@ -16,7 +16,7 @@ use Rattle.calendar.specs.Calendar.{Passes}
 use Rattle.calendar.specs.Live.{live_months}
 use Rattle.rules.specs.Rules.{Rules, next, last_first_month}
 use Rattle.rules.specs.Rulebook.{first_at, rules}
-use Rattle.calls.specs.Calls.{announce}
+use Rattle.calls.specs.declared.Call.TheVariants.{Announce}
 use Rattle.rules.proofs.RulebookLaws.{laws}
 use Rattle.layout.specs.Register.{most_waiting, Body, running, waiting_of, announce_causes}
 use Rattle.layout.specs.Bytes.{register_length, moment_of, body_of, bytes_of}
@@ -53,25 +53,25 @@ module _ (cal bs : List ℕ) (m p : ℕ) where
   gathered passes live first next₁ n spans waits fi nx w s e = rw (nx, w, s, fi) at e ∙ causes_are cal passes b live b.waiting m p
 
   module _ (n : ℕ) (e : n ≡ first_cause (announce_causes (rules cal) b b.waiting m p)) where
-    pub own-refusal : (n ≡ 0 → ⊥) → n ≡ number (rules cal) (announce m p) (running b)
+    pub own-refusal : (n ≡ 0 → ⊥) → n ≡ number (rules cal) (Announce m p) (running b)
     unfolding number
     own-refusal h = e ∙ sym (decides (first_cause (announce_causes (rules cal) b b.waiting m p)) _ (λ z. h (e ∙ z)))
 
     module _ (z : n ≡ 0) where
-      last-cause : number (rules cal) (announce m p) (running b) ≡ cause (leb most_waiting (length b.waiting)) 25
+      last-cause : number (rules cal) (Announce m p) (running b) ≡ cause (leb most_waiting (length b.waiting)) 25
       unfolding number
       last-cause = goes_on (first_cause (announce_causes (rules cal) b b.waiting m p)) _ (sym e ∙ z) ∙ alone _
 
-      pub own_full : most_waiting ≤ get_or bs 1 0 → 25 ≡ number (rules cal) (announce m p) (running b)
+      pub own_full : most_waiting ≤ get_or bs 1 0 → 25 ≡ number (rules cal) (Announce m p) (running b)
       unfolding cause
       own_full h = sym (last-cause ∙ rw (le-leb most_waiting (length b.waiting) (omega (arith, waiting-count))))
 
-      pub own_none : get_or bs 1 0 < most_waiting → 0 ≡ number (rules cal) (announce m p) (running b)
+      pub own_none : get_or bs 1 0 < most_waiting → 0 ≡ number (rules cal) (Announce m p) (running b)
       unfolding cause
       own_none h = sym (last-cause ∙ rw (lt-leb most_waiting (length b.waiting) (omega (arith, waiting-count))))
 
 -- ---- where none holds
-module _ (cal bs : List ℕ) (m p : ℕ) (size : length bs ≡ register_length) (r : Running cal bs) (none : number (rules cal) (announce m p) (running (body_of bs)) ≡ 0) where
+module _ (cal bs : List ℕ) (m p : ℕ) (size : length bs ≡ register_length) (r : Running cal bs) (none : number (rules cal) (Announce m p) (running (body_of bs)) ≡ 0) where
   pub room : Room bs
   unfolding number bytes_of body_of
   room = record {

@@ -1,53 +1,50 @@
 // How old a file is.
-use crate::Attributes;
+use std::fmt;
+use std::fmt::Display;
 use system::System;
 
-// A size or a time of the system; 0 where it is below zero.
-pub fn unsigned(n: i64) -> usize {
-    if 0 <= n {
-        return n as usize;
-    }
-    0
+// A time in seconds.
+#[derive(Clone, Copy, PartialEq, Eq, Debug)]
+pub struct Age(pub u64);
+
+// How long ago a file was changed: since 1970 began where that cannot be known, and not at all where it lies ahead of the clock.
+pub fn age_of(system: &System, path: &[u8]) -> Age {
+    let changed = match crate::of(system, path) {
+        Ok(Some(file)) => u64::try_from(file.changed).unwrap_or(0),
+        _ => 0,
+    };
+    let now = system.now().unwrap_or(0);
+    Age(now.saturating_sub(changed))
 }
 
-// How many seconds ago a time was; 0 where it lies ahead of the clock.
-fn seconds_since(system: &System, time: i64) -> usize {
-    let now = system.now();
-    let then = unsigned(time);
-    if now < then {
-        return 0;
+// So many of a unit.
+#[derive(Clone, Copy)]
+struct Count(u64, &'static str);
+
+impl Display for Count {
+    fn fmt<W: fmt::Write>(&self, f: &mut fmt::Formatter<W>) -> fmt::Result {
+        let n = self.0;
+        let unit = self.1;
+        let s = if n == 1 { "" } else { "s" };
+        write!(f, "{n} {unit}{s}")
     }
-    now - then
 }
 
-fn put_count(out: &mut [u8], at: usize, n: usize, unit: &[u8]) -> usize {
-    let end = text::number(out, at, text::narrowed(n));
-    let end = text::put(out, end, unit);
-    if n == 1 {
-        return end;
+// By the two greatest parts of the time.
+impl Display for Age {
+    fn fmt<W: fmt::Write>(&self, f: &mut fmt::Formatter<W>) -> fmt::Result {
+        let seconds = self.0;
+        let minutes = seconds / 60;
+        let hours = minutes / 60;
+        let (first, second) = if 24 <= hours {
+            (Count(hours / 24, "day"), Count(hours % 24, "hour"))
+        } else if 1 <= hours {
+            (Count(hours, "hour"), Count(minutes % 60, "minute"))
+        } else if 1 <= minutes {
+            (Count(minutes, "minute"), Count(seconds % 60, "second"))
+        } else {
+            return write!(f, "{}", Count(seconds, "second"));
+        };
+        write!(f, "{first} {second}")
     }
-    text::put(out, end, b"s")
-}
-
-fn put_two(out: &mut [u8], at: usize, n: usize, unit: &[u8], rest: usize, part: &[u8]) -> usize {
-    let at = put_count(out, at, n, unit);
-    let at = text::put(out, at, b" ");
-    put_count(out, at, rest, part)
-}
-
-// How long ago a file was changed, by the two greatest parts of that time.
-pub fn put_age(system: &System, out: &mut [u8], at: usize, file: Attributes) -> usize {
-    let seconds = seconds_since(system, file.changed);
-    let minutes = seconds / 60;
-    let hours = minutes / 60;
-    if 24 <= hours {
-        return put_two(out, at, hours / 24, b" day", hours % 24, b" hour");
-    }
-    if 1 <= hours {
-        return put_two(out, at, hours, b" hour", minutes % 60, b" minute");
-    }
-    if 1 <= minutes {
-        return put_two(out, at, minutes, b" minute", seconds % 60, b" second");
-    }
-    put_count(out, at, seconds, b" second")
 }

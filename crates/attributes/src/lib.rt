@@ -4,10 +4,12 @@
 mod age;
 
 ghost use Rattle.attributes.specs.Paths.{Ended};
+ghost use Rattle.std.specs.Prelude.{◌≡◌, ◌↔◌, IsTrue};
 
-pub use age::{put_age, unsigned};
+pub use age::{Age, age_of};
 use std::os::unix::fs::MetadataExt;
-use system::{EINVAL, ENOENT, Metadata, PATH_MAX, System};
+use system::{Error, Metadata, PATH_MAX, System};
+use text::Text;
 
 const LAST: usize = PATH_MAX - 1;
 
@@ -23,124 +25,96 @@ const PERMISSIONS: u32 = 0o777;
 
 const WRITING: u32 = 0o222;
 
-// Where the system could not tell, neither `is_known` nor `is_there` holds and the error says why; where it told that there is
-// no such file, `is_known` alone holds. So whoever must not take trouble for a missing file asks `is_known` first.
 #[derive(Clone, Copy)]
 pub struct Attributes {
-    pub is_known: bool,
-    pub is_there: bool,
-    pub mode: u32,
+    mode: u32,
     pub owner: u32,
     pub group: u32,
     pub device: u64,
     pub inode: u64,
-    pub size: i64,
+    pub size: u64,
     // In seconds since 1970 began.
     pub changed: i64,
 }
 
-#[derive(Drop)]
-pub enum Link {
-    // Its target, so many bytes.
-    To(usize),
-    // The name is no link, or nothing has that name.
-    No,
-    // The system could not tell; the error says why.
-    Unknown,
+impl From<Metadata> for Attributes {
+    fn from(found: Metadata) -> Attributes {
+        Attributes {
+            mode: found.mode(),
+            owner: found.uid(),
+            group: found.gid(),
+            device: found.dev(),
+            inode: found.ino(),
+            size: found.size(),
+            changed: found.mtime(),
+        }
+    }
 }
 
-// A path as C reads it. All of it where `is_path`.
+impl Attributes {
+    pub fn is_regular(&self) -> bool {
+        self.mode & FORMAT == REGULAR
+    }
+
+    pub fn is_folder(&self) -> bool {
+        self.mode & FORMAT == FOLDER
+    }
+
+    // Nobody may write it, its owner neither.
+    pub fn is_protected(&self) -> bool {
+        self.mode & WRITING == 0
+    }
+
+    pub fn permissions(&self) -> u32 {
+        self.mode & PERMISSIONS
+    }
+
+    // Whether both are those of one file.
+    pub fn is_of_same_file(&self, other: &Attributes) -> bool
+        ensures { IsTrue result ↔ (self.now.device ≡ other.now.device) × (self.now.inode ≡ other.now.inode) }
+    {
+        self.device == other.device && self.inode == other.inode
+    }
+}
+
+// A path as C reads it. All of it where it passes the check.
 fn ended(path: &[u8]) -> [u8; PATH_MAX]
     ensures { Ended result }
 {
-    let mut name = system::buffer();
-    text::put(&mut name, 0, path);
+    let mut name = [0; PATH_MAX];
+    let n = path.len().min(PATH_MAX);
+    name[..n].copy_from_slice(&path[..n]);
     name[LAST] = 0;
     name
 }
 
 // Whether C can be handed all of a path: as C reads it, it ends where the path does. Where it cannot, the error says why, by
 // a call that comes to nothing.
-fn is_path(system: &System, path: &[u8]) -> bool {
-    let name = ended(path);
-    if text::find(&name, 0, 0) == path.len() {
-        return true;
+fn check(system: &System, path: &[u8]) -> Result<(), Error> {
+    let end = ended(path).iter().position(|&byte| byte == 0);
+    if end != Some(path.len()) {
+        system.open_read(path)?;
+        return Err(Error::EINVAL);
     }
-    let _ = system.open_read(path);
-    false
+    Ok(())
 }
 
-// Those of a file that is not there.
-fn zeros(is_known: bool) -> Attributes {
-    Attributes {
-        is_known: is_known,
-        is_there: false,
-        mode: 0,
-        owner: 0,
-        group: 0,
-        device: 0,
-        inode: 0,
-        size: 0,
-        changed: 0,
-    }
-}
-
-fn made_of(found: Metadata) -> Attributes {
-    Attributes {
-        is_known: true,
-        is_there: true,
-        mode: found.mode(),
-        owner: found.uid(),
-        group: found.gid(),
-        device: found.dev(),
-        inode: found.ino(),
-        size: found.size().cast_signed(),
-        changed: found.mtime(),
-    }
-}
-
-fn ask(system: &System, path: &[u8]) -> Attributes {
+// Those of a file; none where there is no such file. So trouble is never taken for a missing file.
+pub fn of(system: &System, path: &[u8]) -> Result<Option<Attributes>, Error> {
+    check(system, path)?;
     match system.metadata(path) {
-        Some(found) => made_of(found),
-        None => zeros(system.error() == ENOENT),
+        Ok(found) => Ok(Some(Attributes::from(found))),
+        Err(Error::ENOENT) => Ok(None),
+        Err(error) => Err(error),
     }
 }
 
-pub fn of(system: &System, path: &[u8]) -> Attributes {
-    if !is_path(system, path) {
-        return zeros(false);
+// Where a link leads; none where the name is no link, or nothing has that name.
+pub fn link_of(system: &System, path: &[u8]) -> Result<Option<Text<PATH_MAX>>, Error> {
+    check(system, path)?;
+    match system.link_target(path) {
+        Ok(target) => Ok(Some(target)),
+        Err(Error::EINVAL | Error::ENOENT) => Ok(None),
+        Err(error) => Err(error),
     }
-    ask(system, path)
-}
-
-pub fn is_regular(file: Attributes) -> bool {
-    file.is_there && file.mode & FORMAT == REGULAR
-}
-
-pub fn is_folder(file: Attributes) -> bool {
-    file.is_there && file.mode & FORMAT == FOLDER
-}
-
-// Nobody may write it, its owner neither.
-pub fn is_protected(file: Attributes) -> bool {
-    file.mode & WRITING == 0
-}
-
-pub fn permissions(file: Attributes) -> u32 {
-    file.mode & PERMISSIONS
-}
-
-// Where a link leads, put at the start of the buffer.
-pub fn link_of(system: &System, path: &[u8], target: &mut [u8]) -> Link {
-    if !is_path(system, path) {
-        return Link::Unknown;
-    }
-    if let Some(n) = system.link_target(path, target) {
-        return Link::To(n);
-    }
-    let error = system.error();
-    if error == EINVAL || error == ENOENT {
-        return Link::No;
-    }
-    Link::Unknown
 }

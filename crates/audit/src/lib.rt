@@ -1,220 +1,195 @@
 // Holding a register against what its journal gives.
 #![tactic(auto)]
 
-use layout::MOST_ROWS;
-use phrases::fill;
+use phrases::Origin;
+use reading::{Announcement, Part, Register, Row};
+use std::fmt;
+use std::fmt::Display;
+use text::{Date, Month};
 
-// The first byte in which two registers differ, or the end of the first.
-fn first_byte(a: &[u8], b: &[u8]) -> usize {
-    let mut i: usize = 0;
-    while i < a.len() {
-        if b.len() <= i {
-            return i;
-        }
-        if a[i] != b[i] {
-            return i;
-        }
-        i += 1;
-    }
-    i
-}
-
-// The first row, counted from 0, in which two registers differ; where there is none the number of all.
-fn first_row(a: &[u8], b: &[u8]) -> u32 {
-    let end = MOST_ROWS as u32;
-    let mut n: u32 = 0;
-    while n < end {
-        if !text::same(reading::row_place(a, n), reading::row_place(b, n)) {
-            return n;
-        }
-        n += 1;
-    }
-    n
-}
-
-// The last of the four fields.
-const ROW_COUNT: u32 = 4;
-
-// Status, day, announcements waiting or number of rows, counted from 1 in that order.
-fn field(register: &[u8], which: u32) -> u32 {
-    match which {
-        1 => reading::status(register),
-        2 => reading::day(register),
-        3 => reading::waiting(register),
-        _ => reading::row_count(register),
-    }
-}
-
-// The first of the four that differs; 5 where none does.
-fn first_field(given: &[u8], register: &[u8]) -> u32 {
-    let mut which: u32 = 1;
-    while which < 5 {
-        if field(given, which) != field(register, which) {
-            return which;
-        }
-        which += 1;
-    }
-    5
-}
-
-// What differs: the announcement or the row of a number, counted from 0, or what one of the messages of one line says,
-// by the number of its form and a byte's place.
-#[derive(Drop)]
-enum Differs {
-    Announcement(u32),
-    Row(u32),
+// What the head of a register tells.
+#[derive(Clone, Copy, PartialEq, Eq, Debug)]
+enum Field {
+    Status,
+    Day,
+    Waiting,
     RowCount,
-    Line(u32, u32),
 }
 
-// The form for a byte that both registers have, only the first, only the second, or none.
-fn byte_form(given: &[u8], register: &[u8], place: u32) -> Differs {
-    if (place as usize) < given.len() {
-        let form = if (place as usize) < register.len() {
-            5
-        } else {
-            6
-        };
-        return Differs::Line(form, place);
-    }
-    let form = if (place as usize) < register.len() {
-        7
-    } else {
-        8
-    };
-    Differs::Line(form, place)
-}
+const FIELDS: [Field; 4] = [Field::Status, Field::Day, Field::Waiting, Field::RowCount];
 
-// What the byte at a place behind the four is a part of.
-fn at_byte(given: &[u8], register: &[u8], place: u32) -> Differs {
-    let n = reading::announcement_with(place);
-    if n < reading::waiting(given) {
-        return Differs::Announcement(n);
-    }
-    let n = reading::row_with(place);
-    if n < reading::row_count(given) && !reading::is_spare(place) {
-        return Differs::Row(n);
-    }
-    byte_form(given, register, place)
-}
-
-fn first_difference(given: &[u8], register: &[u8]) -> Differs {
-    if text::same(given, register) {
-        return Differs::Line(9, 0);
-    }
-    let which = first_field(given, register);
-    if which == ROW_COUNT {
-        return Differs::RowCount;
-    }
-    if which < 5 {
-        return Differs::Line(which, 0);
-    }
-    at_byte(given, register, text::narrowed(first_byte(given, register)))
-}
-
-fn announcement(out: &mut [u8], at: usize, given: &[u8], register: &[u8], n: u32) -> usize {
-    let a = reading::announcement_at(given, n);
-    let b = reading::announcement_at(register, n);
-    fill(
-        out,
-        at,
-        b"announcement %n:\n  the journal gives %m %n\n  the register has  %m %n",
-        [n % 65536 + 1, a.month, a.price, b.month, b.price, 0],
-    )
-}
-
-// Where a form ends that has the words of an origin last: in front of their comma where it is not from 1 to 5.
-fn form_end(length: usize, origin: u32) -> usize {
-    if 1 <= origin {
-        if origin <= 5 {
-            return length;
+impl Field {
+    fn of(self, register: Register<'_>) -> u32 {
+        match self {
+            Field::Status => u32::from(register.status()),
+            Field::Day => register.day(),
+            Field::Waiting => register.waiting(),
+            Field::RowCount => register.row_count(),
         }
     }
-    if 4 <= length { length - 4 } else { 0 }
 }
 
-fn row(out: &mut [u8], at: usize, register: &[u8], n: u32) -> usize {
-    if reading::row_count(register) <= n {
-        return text::put(out, at, b"no row");
-    }
-    let row = reading::row_at(reading::row_place(register, n), 0);
-    let form = b"%m %n, first day %d, origin %n, %o";
-    fill(
-        out,
-        at,
-        text::part(form, 0, form_end(form.len(), row.origin)),
-        [row.month, row.price, row.first, row.origin, row.origin, 0],
-    )
+// What differs: an announcement as the journal gives it and as the register has it, a row, a byte. Their numbers are counted
+// from 0.
+#[derive(Clone, Copy, PartialEq, Eq, Debug)]
+enum Different {
+    Nothing,
+    Field(Field),
+    Announcement(usize, Announcement, Announcement),
+    Row(usize),
+    Byte(usize),
 }
 
-fn rows(out: &mut [u8], at: usize, given: &[u8], register: &[u8], n: u32) -> usize {
-    let at = fill(
-        out,
-        at,
-        b"row %n:\n  the journal gives ",
-        [n % 65536 + 1, 0, 0, 0, 0, 0],
-    );
-    let at = row(out, at, given, n);
-    let at = text::put(out, at, b"\n  the register has  ");
-    row(out, at, register, n)
-}
+// A row as it is told.
+#[derive(Drop)]
+struct Listed(Option<Row>);
 
-// Registers with different numbers of rows: the numbers, and the first row that differs.
-fn row_counts(out: &mut [u8], at: usize, given: &[u8], register: &[u8]) -> usize {
-    let at = line(out, at, given, register, ROW_COUNT, 0);
-    let at = text::put_byte(out, at, b'\n');
-    rows(out, at, given, register, first_row(given, register))
-}
-
-// A message of one line.
-fn line(
-    out: &mut [u8],
-    at: usize,
-    given: &[u8],
-    register: &[u8],
-    number: u32,
-    place: u32,
-) -> usize {
-    let form = lines::line(
-        b"status, 0 empty, 1 running: the journal gives %n, the register has %n
-day: the journal gives %d, the register has %d
-announcements waiting: the journal gives %n, the register has %n
-rows: the journal gives %n, the register has %n
-byte %n: the journal gives %n, the register has %n
-byte %n: the journal gives %n, the register has none
-byte %n: the journal gives none, the register has %n
-byte %n: the journal gives none, the register has none
-no difference",
-        number,
-    );
-    let values = values_of(given, register, number, place);
-    fill(out, at, form, values)
-}
-
-fn values_of(given: &[u8], register: &[u8], number: u32, place: u32) -> [u32; 6] {
-    if number < 5 {
-        return [field(given, number), field(register, number), 0, 0, 0, 0];
-    }
-    let has = reading::byte_at(register, place as usize);
-    if number == 7 {
-        return [place, has, 0, 0, 0, 0];
-    }
-    [place, reading::byte_at(given, place as usize), has, 0, 0, 0]
-}
-
-fn describe(out: &mut [u8], at: usize, given: &[u8], register: &[u8]) -> usize {
-    let first = first_difference(given, register);
-    match first {
-        Differs::Announcement(n) => announcement(out, at, given, register, n),
-        Differs::Row(n) => rows(out, at, given, register, n),
-        Differs::RowCount => row_counts(out, at, given, register),
-        Differs::Line(number, place) => line(out, at, given, register, number, place),
+impl Display for Listed {
+    fn fmt<W: fmt::Write>(&self, f: &mut fmt::Formatter<W>) -> fmt::Result {
+        let Some(row) = self.0 else {
+            return f.write_str("no row");
+        };
+        let month = Month(row.month);
+        let price = row.price;
+        let first = Date(row.first);
+        let origin = row.origin;
+        write!(f, "{month} {price}, first day {first}, origin {origin}")?;
+        match origin {
+            1..=5 => write!(f, ", {}", Origin(origin)),
+            _ => Ok(()),
+        }
     }
 }
 
-// Writes the first thing in which a register differs from what its journal gives: status, day, announcements waiting,
+// A byte, where there is one.
+#[derive(Drop)]
+struct OrNone(Option<u8>);
+
+impl Display for OrNone {
+    fn fmt<W: fmt::Write>(&self, f: &mut fmt::Formatter<W>) -> fmt::Result {
+        match self.0 {
+            Some(byte) => write!(f, "{byte}"),
+            None => f.write_str("none"),
+        }
+    }
+}
+
+// The first place at which two lists differ, or where the shorter one ends.
+fn first_other<T: PartialEq>(a: &[T], b: &[T]) -> usize {
+    let other = a.iter().zip(b).position(|(a, b)| a != b);
+    other.unwrap_or(a.len().min(b.len()))
+}
+
+// The first thing in which a register differs from what its journal gives, and a line feed: status, day, announcements waiting,
 // number of rows with the first row that differs, an announcement, a row, or a byte that is a part of none of these.
-pub fn difference(out: &mut [u8], at: usize, given: &[u8], register: &[u8]) -> usize {
-    let at = describe(out, at, given, register);
-    text::put_byte(out, at, b'\n')
+#[derive(Clone, Copy)]
+pub struct Difference<'a> {
+    pub given: Register<'a>,
+    pub register: Register<'a>,
+}
+
+impl Difference<'_> {
+    fn first(&self) -> Different {
+        let given = self.given;
+        let register = self.register;
+        if given.bytes == register.bytes {
+            return Different::Nothing;
+        }
+        let mut fields = FIELDS.iter();
+        if let Some(field) = fields.find(|field| field.of(given) != field.of(register)) {
+            return Different::Field(*field);
+        }
+        let place = first_other(given.bytes, register.bytes);
+        match reading::part_at(place) {
+            Part::Announcement(number) => self.announcement(number, place),
+            Part::Row(number) if given.row(number).is_some() => Different::Row(number),
+            _ => Different::Byte(place),
+        }
+    }
+
+    // The announcement of a number, where so many wait; else the byte at its place.
+    fn announcement(&self, number: usize, place: usize) -> Different {
+        let gives = self.given.announcements().nth(number);
+        let has = self.register.announcements().nth(number);
+        match (gives, has) {
+            (Some(gives), Some(has)) => Different::Announcement(number, gives, has),
+            _ => Different::Byte(place),
+        }
+    }
+
+    fn put_field<W: fmt::Write>(&self, f: &mut fmt::Formatter<W>, field: Field) -> fmt::Result {
+        let gives = field.of(self.given);
+        let has = field.of(self.register);
+        match field {
+            Field::Status => write!(
+                f,
+                "status, 0 empty, 1 running: the journal gives {gives}, the register has {has}",
+            ),
+            Field::Day => {
+                let gives = Date(gives);
+                let has = Date(has);
+                write!(f, "day: the journal gives {gives}, the register has {has}")
+            }
+            Field::Waiting => write!(
+                f,
+                "announcements waiting: the journal gives {gives}, the register has {has}",
+            ),
+            Field::RowCount => {
+                writeln!(f, "rows: the journal gives {gives}, the register has {has}")?;
+                let other = first_other(self.given.row_places(), self.register.row_places());
+                self.put_rows(f, other)
+            }
+        }
+    }
+
+    fn put_rows<W: fmt::Write>(&self, f: &mut fmt::Formatter<W>, number: usize) -> fmt::Result {
+        let gives = Listed(self.given.row(number));
+        let has = Listed(self.register.row(number));
+        let number = number.saturating_add(1);
+        write!(
+            f,
+            "row {number}:\n  the journal gives {gives}\n  the register has  {has}"
+        )
+    }
+
+    fn put_byte<W: fmt::Write>(&self, f: &mut fmt::Formatter<W>, place: usize) -> fmt::Result {
+        let gives = OrNone(self.given.bytes.get(place).copied());
+        let has = OrNone(self.register.bytes.get(place).copied());
+        write!(
+            f,
+            "byte {place}: the journal gives {gives}, the register has {has}"
+        )
+    }
+}
+
+fn put_announcements<W: fmt::Write>(
+    f: &mut fmt::Formatter<W>,
+    number: usize,
+    gives: Announcement,
+    has: Announcement,
+) -> fmt::Result {
+    let number = number.saturating_add(1);
+    writeln!(f, "announcement {number}:")?;
+    writeln!(
+        f,
+        "  the journal gives {} {}",
+        Month(gives.month),
+        gives.price
+    )?;
+    write!(f, "  the register has  {} {}", Month(has.month), has.price)
+}
+
+impl Display for Difference<'_> {
+    fn fmt<W: fmt::Write>(&self, f: &mut fmt::Formatter<W>) -> fmt::Result {
+        match self.first() {
+            Different::Nothing => f.write_str("no difference")?,
+            Different::Field(field) => self.put_field(f, field)?,
+            Different::Announcement(number, gives, has) => {
+                put_announcements(f, number, gives, has)?;
+            }
+            Different::Row(number) => self.put_rows(f, number)?,
+            Different::Byte(place) => self.put_byte(f, place)?,
+        }
+        f.write_str("\n")
+    }
 }

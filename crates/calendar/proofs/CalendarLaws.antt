@@ -9,7 +9,7 @@ use native.Mathlib.Omega.{arith}
 use lib.Dec.{eqb, ltb}
 use lib.ListN.{length, get_or, get_or-eq_default}
 use lib.Pow.{shr-shr}
-use borrow.Author.Tests.{lt-ltb, ltb-true, ltb-false, eq-eqb, ne_eqb, eqb-false, not-false}
+use borrow.Author.Tests.{lt-ltb, le-ltb, ltb-true, ltb-false, eq-eqb, ne_eqb, eqb-false, not-false}
 use Rattle.base.specs.Search.{first_in, some_in}
 use Rattle.base.specs.Lists.{least_of}
 use Rattle.base.specs.Causes.{cause, first_cause}
@@ -18,7 +18,8 @@ use Rattle.base.proofs.SearchLaws.{first_end, first_skip, first-low, first-befor
 use Rattle.base.proofs.CauseLaws.{none_of, not-cause, passed}
 use Rattle.dates.specs.Months.{month_count, day_count, first_day, third_friday}
 use Rattle.dates.proofs.MonthLaws.{third-friday_rule, third-friday-below}
-use Rattle.calendar.specs.Calendar.{calendar_length, session, tail_set, lacks, first_lacking, calendar_causes, calendar_cause, Passes, expiry_of, next_session}
+use Rattle.calendar.specs.declared.Checked.{Checked}
+use Rattle.calendar.specs.Calendar.{calendar_length, session, tail_set, lacks, first_lacking, calendar_causes, calendar_cause, check_of, Passes, expiry_of, next_session}
 use Rattle.base.proofs.ListLaws.{least_at}
 use Rattle.calendar.proofs.Bits.{word, word_sessions}
 
@@ -110,7 +111,16 @@ months_decide cal e t =
     passed (not (eqb (length cal) calendar_length)) 11 _ (ap not (eq-eqb (length cal) calendar_length e))
     ∙ passed (tail_set cal) 12 _ (tail_clear cal t)
 
+-- ---- what the check's answer tells
+pub check_tells : (cal : List ℕ) {checked : Checked} → checked ≡ check_of cal → checked.number ≡ calendar_cause cal
+unfolding check_of
+check_tells cal e = ap (λ r. r.number) e
+
 -- ---- a calendar that passes
+pub passes_of : (cal : List ℕ) → length cal ≡ calendar_length → get_or cal 4565 0 < 32 → month_count ≤ first_lacking cal → Passes cal
+unfolding cause first_cause
+passes_of cal e t h = rw (months_decide cal e t, le-ltb (first_lacking cal) month_count h)
+
 pub passes-month : (cal : List ℕ) → Passes cal → (m : ℕ) → m < month_count → lacks cal m ≡ false
 unfolding calendar_cause calendar_causes
 passes-month cal h m l =

@@ -1,8 +1,10 @@
 -- Document 01, "Days and months": the session calendar, its check (causes 11 to 13) and expiry dates. A calendar is the list of its bytes.
 -- Assumes nothing.
-use Rattle.std.specs.Prelude.{◌≡◌, Bool, cond, not, ◌||◌, List, [], ◌∷◌, ℕ, ◌+◌, ◌/◌, ◌%◌, ◌^◌, eqb, get_or, length}
+use Rattle.std.specs.Prelude.{◌≡◌, Bool, cond, not, ◌||◌, List, [], ◌∷◌, ℕ, ◌+◌, ◌/◌, ◌%◌, ◌^◌, eqb, get_or, length, Result, Ok, Err}
 use Rattle.base.specs.Search.{first_in, some_in, last_up_to}
 use Rattle.base.specs.Causes.{cause, first_cause}
+use Rattle.base.specs.Numbers.{number_of, month_of}
+use Rattle.base.specs.declared.causes.Cause.{Cause}
 use Rattle.dates.specs.Months.{month_count, day_count, first_day, third_friday}
 use Rattle.calendar.specs.declared.Checked.{Checked}
 
@@ -43,6 +45,11 @@ check_of cal = record {
   number = calendar_cause cal;
   month = cond (eqb (calendar_cause cal) 13) (first_lacking cal) 0;
 }
+
+-- the check's answer as a result: the cause's number, or 0, and the month that is told beside it
+abbrev pub checked_of : {A : Type 0} → Result A Cause → Checked
+checked_of (Ok _) = record { number = 0; month = 0 }
+checked_of (Err cause) = record { number = number_of cause; month = month_of cause }
 
 -- the calendar has none of the causes 11 to 13
 abbrev pub Passes : List ℕ → Type 0

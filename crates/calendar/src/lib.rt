@@ -3,16 +3,23 @@
 
 ghost use Rattle.std.specs.Prelude.{◌≡◌, ◌<◌, ◌≤◌};
 ghost use Rattle.dates.specs.Months.{month_count, day_count};
-ghost use Rattle.calendar.specs.Calendar.{session, Passes, expiry_of, next_session};
+ghost use Rattle.calendar.specs.Calendar.{session, Passes, checked_of, expiry_of, next_session};
 ghost use Rattle.calendar.specs.Live.{first_live, live_months, tier_of};
 
-use base::Tier;
+use base::{Cause, Tier};
 use dates::{DAYS, MONTHS};
 
 // A calendar's length in bytes.
 pub const CALENDAR_LENGTH: usize = 4566;
 
-// The answer of the calendar's check: the cause's number, or 0, and the month that cause 13 names.
+// A calendar that passed its check.
+#[derive(Clone, Copy)]
+pub struct Calendar<'a> {
+    pub bytes: &'a [u8],
+    ghost passes: { Passes bytes.now },
+}
+
+// The answer of the calendar's check as C gets it: the cause's number, or 0, and the month that cause 13 names.
 #[repr(C)]
 #[derive(Drop)]
 pub struct Checked {
@@ -20,15 +27,30 @@ pub struct Checked {
     pub month: u16,
 }
 
+impl From<Result<Calendar<'_>, Cause>> for Checked {
+    ghost from_gives = { λ checked answer. answer ≡ checked_of checked };
+
+    fn from(checked: Result<Calendar<'_>, Cause>) -> Checked {
+        match checked {
+            Ok(_) => Checked {
+                number: 0,
+                month: 0,
+            },
+            Err(cause) => Checked {
+                number: cause.number(),
+                month: cause.month(),
+            },
+        }
+    }
+}
+
 // Whether a day has a session; past the calendar's end there is none.
 pub fn has_session(calendar: &[u8], day: u16) -> bool
     ensures { result ≡ session calendar.now day }
 {
-    let at = (day / 8) as usize;
-    if at < calendar.len() {
-        (calendar[at] >> (day % 8)) % 2 == 1
-    } else {
-        false
+    match calendar.get((day / 8) as usize) {
+        Some(byte) => (byte >> (day % 8)) % 2 == 1,
+        None => false,
     }
 }
 
@@ -37,38 +59,35 @@ pub fn expiry(calendar: &[u8], month: u16) -> u16
     requires { month < month_count }
     ensures { result ≡ expiry_of calendar.now month }
 {
-    let mut day = dates::third_friday(month);
-    while 0 < day {
+    for day in (1..=dates::third_friday(month)).rev() {
         if has_session(calendar, day) {
             return day;
         }
-        day -= 1;
     }
-    day
+    0
 }
 
 // The first session after a day; 36,525 where there is none.
+// Kept: no Option, since the rules take that number for a day, the one after the calendar: a session on it is told that it is too late.
 pub fn next_session(calendar: &[u8], day: u16) -> u16
     requires { day < day_count }
     ensures { result ≡ next_session calendar.now day }
 {
-    let mut next = day + 1;
-    while next < DAYS {
+    for next in day + 1..DAYS {
         if has_session(calendar, next) {
             return next;
         }
-        next += 1;
     }
-    next
+    DAYS
 }
 
 // The first live month of a day: the day's own month until it has expired, then the next.
-pub fn first_live(calendar: &[u8], day: u16) -> u16
-    requires { (day < day_count) × Passes calendar.now }
-    ensures { result ≡ first_live (expiry_of calendar.now) day }
+pub fn first_live(calendar: Calendar<'_>, day: u16) -> u16
+    requires { day < day_count }
+    ensures { result ≡ first_live (expiry_of calendar.entry.bytes.now) day }
 {
     let month = dates::month_of(day);
-    if day <= expiry(calendar, month) {
+    if day <= expiry(calendar.bytes, month) {
         month
     } else {
         month + 1

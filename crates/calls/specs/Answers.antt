@@ -2,10 +2,10 @@
 -- register and argument.
 -- Assumes nothing.
 use Rattle.std.specs.Prelude.{Bool, cond, not, List, [], ◌∷◌, ℕ, suc, eqb, length}
-use Rattle.std.proofs.Math.Option.{Option, none, some}
 use Rattle.base.specs.Lists.{elem}
 use Rattle.rules.specs.Rules.{Rules}
-use Rattle.calls.specs.Calls.{Call, start, session, announce}
+use Rattle.calls.specs.declared.Call.{Call}
+use Rattle.calls.specs.declared.Call.TheVariants.{Start, Session, Announce}
 use Rattle.layout.specs.Rows.{Row}
 use Rattle.layout.specs.Register.{Reg, empty, running}
 use Rattle.layout.specs.Bytes.{reg_of, bytes_of}
@@ -15,9 +15,7 @@ use Rattle.rules.specs.Rulebook.{rules}
 use Rattle.calls.specs.Listing.{number, accepted}
 use Rattle.calls.specs.declared.Listed.{Listed}
 use Rattle.calls.specs.declared.Told.{Told}
-use Rattle.calls.specs.declared.Answer.{Answer}
-use Rattle.calls.specs.declared.Called.{Called}
-use Rattle.calls.specs.declared.Called.TheVariants.{Answered, NoCall}
+use Rattle.calls.specs.Results.{Answered, of_listed, of_told}
 
 -- the rows of a register, and how many of a list pass a test
 unfoldable pub rows_held : Reg → List Row
@@ -82,23 +80,7 @@ announced_at calendar k bs = let R : Rules = rules calendar in told_at calendar 
 
 -- ---- what a call answers, whichever it is: its number and the values beside it
 
-abbrev pub of_listed : Listed → Answer
-of_listed l = record { number = l.number; first = l.added; second = l.removed; third = l.rows }
-
-abbrev pub of_told : Told → Answer
-of_told t = record { number = t.number; first = t.value; second = 0; third = 0 }
-
-unfoldable pub answer_at : List ℕ → Call → List ℕ → Answer
-answer_at calendar (start d c) bs = of_listed (listed_at calendar (start d c) bs)
-answer_at calendar (session d c) bs = of_listed (listed_at calendar (session d c) bs)
-answer_at calendar (announce m p) bs = of_told (announced_at calendar (announce m p) bs)
-
--- ---- what a kind and its pairs answer and leave (`call_of`): where they are no call, the answer says so and the register stays
-
-unfoldable pub called_at : List ℕ → Option Call → List ℕ → Called
-called_at calendar none bs = NoCall
-called_at calendar (some k) bs = Answered (answer_at calendar k bs)
-
-unfoldable pub after_called : Rules → Option Call → List ℕ → List ℕ
-after_called R none bs = bs
-after_called R (some k) bs = after_at R k bs
+unfoldable pub answer_at : List ℕ → Call → List ℕ → Answered
+answer_at calendar (Start d c) bs = of_listed (listed_at calendar (Start d c) bs)
+answer_at calendar (Session d c) bs = of_listed (listed_at calendar (Session d c) bs)
+answer_at calendar (Announce m p) bs = of_told (announced_at calendar (Announce m p) bs)

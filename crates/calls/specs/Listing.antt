@@ -8,7 +8,8 @@ use Rattle.base.specs.Causes.{cause, first_cause}
 use Rattle.dates.specs.Months.{day_count}
 use Rattle.grid.specs.Grid.{close_taken}
 use Rattle.rules.specs.Rules.{Moment, Rules, last_first_month}
-use Rattle.calls.specs.Calls.{Call, start, session, announce}
+use Rattle.calls.specs.declared.Call.{Call}
+use Rattle.calls.specs.declared.Call.TheVariants.{Start, Session, Announce}
 use Rattle.layout.specs.Rows.{Entry, new_entry, rows_of, find}
 use Rattle.layout.specs.Register.{most_waiting, Body, Reg, empty, running, waiting_of, span_low, span_high, listed, announce_causes}
 
@@ -66,29 +67,29 @@ module _ (R : Rules) where
   -- ---- the number of a call on an empty or well-formed register: its own causes in the table's order
 
   unfoldable pub number : Call → Reg → ℕ
-  number (start d c) empty =
+  number (Start d c) empty =
       first_cause
       (cause (not (ltb d day_count && R.is_session d)) 18
       ∷ cause (ltb last_first_month (R.first_live (R.begin d))) 20
       ∷ cause (not (close_taken c)) 21
       ∷ [])
-  number (start d c) (running b) = 16
-  number (session d c) empty = 17
-  number (session d c) (running b) =
+  number (Start d c) (running b) = 16
+  number (Session d c) empty = 17
+  number (Session d c) (running b) =
       first_cause
       (cause (not (eqb d (R.next_day b.at))) 19
       ∷ cause (ltb last_first_month (R.first_live (R.move b.at d))) 20
       ∷ cause (not (close_taken c)) 21
       ∷ [])
-  number (announce m p) empty = 17
-  number (announce m p) (running b) =
+  number (Announce m p) empty = 17
+  number (Announce m p) (running b) =
       first_cause (first_cause (announce_causes R b b.waiting m p) ∷ cause (leb most_waiting (length b.waiting)) 25 ∷ [])
 
   -- the register after an accepted call; what an accepted call never meets is left as it is
   unfoldable pub accepted : Call → Reg → Reg
-  accepted (start d c) empty = running (start_body (R.begin d) c)
-  accepted (start d c) (running b) = running b
-  accepted (session d c) empty = empty
-  accepted (session d c) (running b) = running (session_body b (R.move b.at d) c)
-  accepted (announce m p) empty = empty
-  accepted (announce m p) (running b) = running (announce_body b m p)
+  accepted (Start d c) empty = running (start_body (R.begin d) c)
+  accepted (Start d c) (running b) = running b
+  accepted (Session d c) empty = empty
+  accepted (Session d c) (running b) = running (session_body b (R.move b.at d) c)
+  accepted (Announce m p) empty = empty
+  accepted (Announce m p) (running b) = running (announce_body b m p)

@@ -2,17 +2,42 @@
 // stands in crates of its own.
 #![tactic(auto)]
 
-// The kinds of calls, as a journal has them.
-pub const START: u8 = 0;
+ghost use Rattle.std.specs.Prelude.{◌≡◌};
+ghost use Rattle.calls.specs.Results.{listed_of, told_of, place_of};
 
-pub const SESSION: u8 = 1;
+use base::Cause;
 
-pub const ANNOUNCE: u8 = 2;
+// A call that changes a register: day and close, or month and price.
+#[derive(Clone, Copy, PartialEq, Eq, Debug)]
+pub enum Call {
+    Start(u32, u32),
+    Session(u32, u32),
+    Announce(u32, u32),
+}
 
-// How many kinds there are; a number from here on is none.
-pub const KINDS: u8 = 3;
+// What an accepted start or session tells: the rows added, the rows removed and the row count.
+#[derive(Clone, Copy, PartialEq, Eq, Debug)]
+pub struct Totals {
+    pub added: u16,
+    pub removed: u16,
+    pub rows: u16,
+}
 
-// What a start or a session answers: its number, and where that is 0 the rows added, the rows removed and the row count;
+// What an accepted call tells: a start or session its totals, an announcement how many wait.
+#[derive(Clone, Copy, PartialEq, Eq, Debug)]
+pub enum Answer {
+    Listed(Totals),
+    Announced(u16),
+}
+
+// Where a month's rows stand in the register, in bytes.
+#[derive(Clone, Copy, PartialEq, Eq, Debug)]
+pub struct Part {
+    pub at: u16,
+    pub size: u16,
+}
+
+// What a start or a session answers C: its number, and where that is 0 the rows added, the rows removed and the row count;
 // beside 13 the month in `added`.
 #[repr(C)]
 #[derive(Drop)]
@@ -23,7 +48,28 @@ pub struct Listed {
     pub rows: u16,
 }
 
-// What a call answers that tells one value beside its number, an announcement how many wait; a refusal tells 0, and beside 13 the month.
+impl From<Result<Totals, Cause>> for Listed {
+    ghost from_gives = { λ given listed. listed ≡ listed_of given };
+
+    fn from(given: Result<Totals, Cause>) -> Listed {
+        match given {
+            Ok(totals) => Listed {
+                number: 0,
+                added: totals.added,
+                removed: totals.removed,
+                rows: totals.rows,
+            },
+            Err(cause) => Listed {
+                number: cause.number(),
+                added: cause.month(),
+                removed: 0,
+                rows: 0,
+            },
+        }
+    }
+}
+
+// What an announcement answers C: its number, and where that is 0 how many wait; beside 13 the month.
 #[repr(C)]
 #[derive(Drop)]
 pub struct Told {
@@ -31,7 +77,21 @@ pub struct Told {
     pub value: u16,
 }
 
-// The rows call's number, and where it is 0 the place of the month's rows in the register, in bytes; a refusal has zeros beside its number.
+impl From<Result<u16, Cause>> for Told {
+    ghost from_gives = { λ given told. told ≡ told_of given };
+
+    fn from(given: Result<u16, Cause>) -> Told {
+        match given {
+            Ok(value) => Told { number: 0, value },
+            Err(cause) => Told {
+                number: cause.number(),
+                value: cause.month(),
+            },
+        }
+    }
+}
+
+// What the rows call answers C: its number, and where that is 0 the place of the month's rows; a refusal has zeros beside it.
 #[repr(C)]
 #[derive(Drop)]
 pub struct Place {
@@ -40,18 +100,21 @@ pub struct Place {
     pub size: u16,
 }
 
-// What a call answers: its number, and beside it added, removed and rows of a start or session, or how many announcements wait.
-#[derive(Drop)]
-pub struct Answer {
-    pub number: u16,
-    pub first: u16,
-    pub second: u16,
-    pub third: u16,
-}
+impl From<Result<Part, Cause>> for Place {
+    ghost from_gives = { λ given place. place ≡ place_of given };
 
-// What a kind and its pairs of numbers answer: what their call does, or that they are no call.
-#[derive(Drop)]
-pub enum Called {
-    Answered(Answer),
-    NoCall,
+    fn from(given: Result<Part, Cause>) -> Place {
+        match given {
+            Ok(part) => Place {
+                number: 0,
+                at: part.at,
+                size: part.size,
+            },
+            Err(cause) => Place {
+                number: cause.number(),
+                at: 0,
+                size: 0,
+            },
+        }
+    }
 }

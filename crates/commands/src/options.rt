@@ -1,102 +1,117 @@
-// The options: the rows of the table behind the forms.
-use crate::near::{nearest, place};
-use crate::table::{FORMS, LISTED, letters, put_name, put_words, row, table, takes_value};
+// The options.
+use crate::files::{Access, FileKind, FileUse};
+use crate::near;
+use crate::near::Named;
+use std::fmt;
+use std::fmt::Display;
 
-// Their letters.
-pub const JOURNAL: u8 = b'j';
-
-pub const WITH_FILE: u8 = b's';
-
-pub const YES: u8 = b'y';
-
-pub const FORCE: u8 = b'f';
-
-pub const HELP: u8 = b'h';
-
-pub const VERSION: u8 = b'v';
-
-// An option that there is not, and a word that is no option.
-pub const UNKNOWN: u8 = b'?';
-
-pub const NO_OPTION: u8 = 0;
-
-// Whether a word is an option. A dash alone is none: it stands for a standard stream.
-pub fn is_option(word: &[u8]) -> bool {
-    if word.len() < 2 {
-        return false;
-    }
-    word[0] == b'-'
+#[derive(Clone, Copy, PartialEq, Eq, Debug)]
+pub enum Opt {
+    Journal,
+    File,
+    Yes,
+    Force,
+    Help,
+    Version,
 }
 
-// The row of the option that a word is, which may have its value behind an equals sign; `LISTED` where there is none.
-fn row_of(word: &[u8]) -> u32 {
-    let table = table();
-    let end = text::find(word, 0, b'=');
-    let place = place(&table, FORMS, LISTED, text::part(word, 0, end), 0);
-    if end < word.len() && !takes_value(place) {
-        return LISTED;
-    }
-    place
+pub struct Row {
+    pub option: Opt,
+    name: &'static str,
+    // The file that its value names, where it has a value.
+    file: Option<FileUse>,
 }
 
-pub fn letter(word: &[u8]) -> u8 {
-    if !is_option(word) {
-        return NO_OPTION;
+impl Named for Row {
+    fn name(&self) -> &'static str {
+        self.name
     }
-    letter_of(row_of(word))
 }
 
-// The letter of the option in a row.
-pub fn letter_of(place: u32) -> u8 {
-    let table = table();
-    let letters = letters(row(&table, place));
-    if 0 < letters.len() {
-        return letters[0];
+// The options, and behind them the other names of some.
+pub static TABLE: [Row; 7] = [
+    Row {
+        option: Opt::Journal,
+        name: "--journal",
+        file: Some(FileUse {
+            kind: FileKind::Journal,
+            access: Access::BOTH,
+            takes_stream: false,
+        }),
+    },
+    Row {
+        option: Opt::File,
+        name: "--file",
+        file: Some(FileUse {
+            kind: FileKind::Series,
+            access: Access::WRITTEN,
+            takes_stream: false,
+        }),
+    },
+    Row {
+        option: Opt::Yes,
+        name: "--yes",
+        file: None,
+    },
+    Row {
+        option: Opt::Force,
+        name: "--force",
+        file: None,
+    },
+    Row {
+        option: Opt::Help,
+        name: "--help",
+        file: None,
+    },
+    Row {
+        option: Opt::Version,
+        name: "--version",
+        file: None,
+    },
+    Row {
+        option: Opt::Help,
+        name: "-h",
+        file: None,
+    },
+];
+
+// An option as it was given: its name, and its value where that stands behind an equals sign.
+pub fn parts(word: &[u8]) -> (&[u8], Option<&[u8]>) {
+    match text::split_once(word, b'=') {
+        Some((name, value)) => (name, Some(value)),
+        None => (word, None),
     }
-    UNKNOWN
 }
 
-// The row of the option that has a letter.
-pub fn row_with(option: u8) -> u32 {
-    let mut place = FORMS;
-    while place < LISTED {
-        if letter_of(place) == option {
-            return place;
+impl Opt {
+    fn row(self) -> &'static Row {
+        &TABLE[self as usize]
+    }
+
+    // The option that a word is. One that has no value is none with a value behind it.
+    pub fn named(word: &[u8]) -> Option<Opt> {
+        let (name, value) = parts(word);
+        let row = TABLE.iter().find(|row| row.name.as_bytes() == name)?;
+        if value.is_some() && row.file.is_none() {
+            return None;
         }
-        place += 1;
+        Some(row.option)
     }
-    place
-}
 
-// Whether a word is an option alone whose value stands behind it.
-pub fn wants_value(word: &[u8]) -> bool {
-    is_option(word) && takes_value(row_of(word)) && text::find(word, 0, b'=') == word.len()
-}
-
-// The row of the option that was meant by a word, `LISTED` where none is near.
-pub fn nearest_option(word: &[u8]) -> u32 {
-    let table = table();
-    nearest(&table, FORMS, LISTED, word)
-}
-
-// The option of a row, as a usage line has it, where its letter is among these.
-fn put_option(out: &mut [u8], at: usize, letters: &[u8], place: u32) -> usize {
-    if letters.len() <= text::find(letters, 0, letter_of(place)) {
-        return at;
+    // The name of the option that was meant by a word.
+    pub fn nearest(word: &[u8]) -> Option<&'static str> {
+        let (name, _) = parts(word);
+        Some(near::nearest(&TABLE, name)?.name)
     }
-    let at = text::put(out, at, b" [");
-    let at = put_name(out, at, place);
-    let at = put_words(out, at, place);
-    text::put_byte(out, at, b']')
+
+    // The file that its value names; an option without a file has no value.
+    pub fn file(self) -> Option<FileUse> {
+        self.row().file
+    }
 }
 
-// The options of these letters.
-pub fn put_options(out: &mut [u8], at: usize, letters: &[u8]) -> usize {
-    let mut end = at;
-    let mut place = FORMS;
-    while place < LISTED {
-        end = put_option(out, end, letters, place);
-        place += 1;
+impl Display for Opt {
+    fn fmt<W: fmt::Write>(&self, f: &mut fmt::Formatter<W>) -> fmt::Result {
+        f.write_str(self.row().name)
     }
-    end
 }

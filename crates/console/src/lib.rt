@@ -1,83 +1,83 @@
-// The console program as a library: `run` does what the program's arguments ask and answers its exit status.
+// The console program as a library: `run` does what the program's arguments ask.
 #![tactic(auto)]
 
-use commands::{
-    ANNOUNCE, AUDIT, CALENDAR, CHECK, FILE, NAME, PREVIEW, REPLAY, SERIES, SESSION, START, UNDO,
-};
-use space::JOURNAL_LENGTH;
+use answers::Question;
+use calendar::CALENDAR_LENGTH;
+use commands::Command;
+use files::Trouble;
+use layout::REGISTER_LENGTH;
+use reading::Register;
+use restoring::Use;
 use system::System;
-use terminal::{DONE, TROUBLE};
-use usage::Words;
+use terminal::Status;
 
-fn with_register(system: &System, command: u32, calendar: &[u8]) -> i32 {
-    let mut register = space::register();
-    if !terminal::file(system, 3, &mut register) {
-        return TROUBLE;
-    }
-    if command == PREVIEW {
-        return booking::preview(system, calendar, &register);
-    }
-    answers::ask(system, command, calendar, &register)
+// The bytes of the file that word i names.
+fn load<const N: usize>(system: &System, i: usize) -> Result<[u8; N], Trouble> {
+    let mut bytes = space::zeros::<N>();
+    terminal::file(system, i, &mut bytes)?;
+    Ok(bytes)
 }
 
-fn with_calendar(system: &System, command: u32) -> i32 {
-    let mut calendar = space::calendar();
-    if !terminal::file(system, 2, &mut calendar) {
-        return TROUBLE;
-    }
-    if command == FILE {
-        return filing::write(system, &calendar);
-    }
-    with_register(system, command, &calendar)
+fn calendar(system: &System) -> Result<[u8; CALENDAR_LENGTH], Trouble> {
+    load(system, 2)
 }
 
-fn with_journal(system: &System, command: u32, room: &mut [u8]) -> i32 {
-    let mut calendar = space::calendar();
-    if !terminal::file(system, 2, &mut calendar) {
-        return TROUBLE;
-    }
+fn register(system: &System) -> Result<[u8; REGISTER_LENGTH], Trouble> {
+    load(system, 3)
+}
+
+fn preview(system: &System) -> Result<Status, Trouble> {
+    let calendar = calendar(system)?;
+    let bytes = register(system)?;
+    booking::preview(
+        system,
+        Register {
+            calendar: &calendar,
+            bytes: &bytes,
+        },
+    )
+}
+
+fn ask(system: &System, question: Question) -> Result<Status, Trouble> {
+    let calendar = calendar(system)?;
+    let bytes = register(system)?;
+    answers::ask(
+        system,
+        question,
+        Register {
+            calendar: &calendar,
+            bytes: &bytes,
+        },
+    )
+}
+
+fn act(system: &System, command: Command, room: &mut [u8]) -> Result<Status, Trouble> {
+    guard::check(system, command)?;
     match command {
-        START => booking::make(system, calls::START, &calendar, room),
-        SESSION => booking::make(system, calls::SESSION, &calendar, room),
-        ANNOUNCE => booking::make(system, calls::ANNOUNCE, &calendar, room),
-        UNDO => undoing::undo(system, &calendar, room),
-        _ => restoring::run(system, command, &calendar, room),
-    }
-}
-
-// A file of series may take all of the room, the text of a journal as much as a journal may have.
-fn with_room(system: &System, command: u32, room: &mut [u8]) -> i32 {
-    if command == SERIES {
-        return filing::read(system, room);
-    }
-    if room.len() < JOURNAL_LENGTH {
-        return with_journal(system, command, room);
-    }
-    with_journal(system, command, &mut room[0..JOURNAL_LENGTH])
-}
-
-fn act(system: &System, command: u32, room: &mut [u8]) -> i32 {
-    if !guard::is_clear(system, command) {
-        return TROUBLE;
-    }
-    match command {
-        CALENDAR => answers::make_calendar(system),
-        CHECK => answers::check(system),
-        NAME => answers::name(system),
-        START | SESSION | ANNOUNCE | REPLAY | AUDIT | UNDO | SERIES => with_room(
-            system, command, room,
-        ),
-        _ => with_calendar(system, command),
+        Command::Calendar => answers::make_calendar(system),
+        Command::Check => answers::check(system),
+        Command::Name => answers::name(system),
+        Command::Series => filing::read(system, room),
+        Command::Start => booking::start(system, &calendar(system)?, room),
+        Command::Session => booking::session(system, &calendar(system)?, room),
+        Command::Announce => booking::announce(system, &calendar(system)?, room),
+        Command::Replay => restoring::run(system, Use::Replay, &calendar(system)?, room),
+        Command::Audit => restoring::run(system, Use::Audit, &calendar(system)?, room),
+        Command::Undo => undoing::undo(system, &calendar(system)?, room),
+        Command::File => filing::write(system, &calendar(system)?),
+        Command::Preview => preview(system),
+        Command::Rows => ask(system, Question::Rows),
+        Command::Show => ask(system, Question::Show),
+        Command::Picture => ask(system, Question::Picture),
+        Command::Why => ask(system, Question::Why),
     }
 }
 
 // `room` is for the text of a journal, or for a file of series.
-pub fn run(system: &System, room: &mut [u8]) -> i32 {
+pub fn run(system: &System, room: &mut [u8]) -> Result<Status, Trouble> {
     terminal::hold_streams(system);
-    let words = usage::first_words(system);
-    match words {
-        Words::Go(command) => act(system, command, room),
-        Words::Helped => DONE,
-        Words::Wrong => TROUBLE,
+    match usage::first_words(system)? {
+        Some(command) => act(system, command, room),
+        None => Ok(Status::Done),
     }
 }

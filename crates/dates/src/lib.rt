@@ -5,6 +5,7 @@ ghost use Rattle.std.specs.Prelude.{◌≡◌, ◌<◌, ◌≤◌};
 ghost use Rattle.dates.specs.Months.{month_count, day_count, first_day, third_friday, month_of, ThirdFridays};
 
 // Months 0 to 1,199, days 0 to 36,524.
+// Kept: a day is a number and no type of its own. The rules also speak of the day after the last, and three functions alone ask for less.
 pub const MONTHS: u16 = 1200;
 
 pub const DAYS: u16 = 36525;
@@ -118,8 +119,8 @@ pub fn month_of(day: u16) -> u16
     requires { day < day_count }
     ensures { result ≡ month_of day }
 {
-    let guess = (day as u32) * 2 / 61;
-    let mut month = guess as u16;
+    let mut month = (day as u32 * 2 / 61) as u16;
+    // Kept: a `for` would need an end, which no day reaches.
     while first_day(month + 1) <= day {
         month += 1;
     }

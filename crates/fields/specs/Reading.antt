@@ -1,16 +1,19 @@
 -- Document 02, C-11: a file of series, read: the day, the number of series and the list, with the causes 31 and 30.
 -- Assumes nothing.
-use Rattle.std.specs.Prelude.{Bool, true, false, cond, not, ◌&&◌, ◌||◌, List, [], ◌∷◌, ◌++◌, ℕ, zero, suc, ◌+◌, ◌-◌, eqb, ltb, length, get_or, take, drop}
+use Rattle.std.specs.Prelude.{Bool, true, false, cond, not, ◌&&◌, ◌||◌, List, [], ◌∷◌, ◌++◌, ℕ, zero, suc, ◌+◌, ◌-◌, eqb, ltb, length, get_or, take, drop, Result, Ok, Err}
 use Rattle.base.specs.Search.{first_in, some_in}
 use Rattle.base.specs.Lists.{elem, within}
 use Rattle.base.specs.Causes.{cause, first_cause}
 use Rattle.base.specs.Words.{at16}
+use Rattle.base.specs.Numbers.{number_of, beside_of}
+use Rattle.base.specs.declared.causes.Cause.{Cause}
 use Rattle.base.specs.declared.Tier.TheVariants.{N}
 use Rattle.dates.specs.Months.{day_count}
 use Rattle.grid.specs.Grid.{grid_of}
 use Rattle.names.specs.Names.{name_length, can_stand, price_read}
 use Rattle.fields.specs.Fields.{Field, field, name_in, below}
 use Rattle.fields.specs.declared.Contents.{Contents}
+use Rattle.fields.specs.declared.Filed.{Filed}
 
 -- ---- which bytes can stand where
 
@@ -138,6 +141,11 @@ read_at bs out =
       day = cond (eqb n 0) (day_in file) (cond (eqb n 31) (place_in file) 0);
       series = cond (eqb n 0) (length (series_in file)) 0;
     }
+
+-- the same of a result: the day and the number of series, or a cause's number and what is told beside it
+abbrev pub contents_of : Result Filed Cause → Contents
+contents_of (Ok filed) = record { number = 0; day = filed.day; series = filed.series }
+contents_of (Err c) = record { number = number_of c; day = beside_of c; series = 0 }
 
 -- the output buffer after a read: the series before its other bytes, or what it was
 unfoldable pub read_after : List ℕ → List ℕ → List ℕ

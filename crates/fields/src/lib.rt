@@ -1,6 +1,11 @@
 // A file of series: what its fields are made of. The definitions of specs/ say how a file is written and what any bytes read as.
 #![tactic(auto)]
 
+ghost use Rattle.std.specs.Prelude.{◌≡◌};
+ghost use Rattle.fields.specs.Reading.{contents_of};
+
+use base::Cause;
+
 // The tags: a day, a series.
 pub const DAY_TAG: u8 = 1;
 
@@ -19,11 +24,37 @@ pub const DAY_FIELD: usize = 5;
 
 pub const SERIES_FIELD: usize = 15;
 
-// What reading a file gives: the cause's number, or 0, the day and the number of series; beside 31 the place in `day`.
+// What a file holds: its day, and how many series.
+#[derive(Clone, Copy, PartialEq, Eq, Debug)]
+pub struct Filed {
+    pub day: u32,
+    pub series: u32,
+}
+
+// What C gets of a file that was read: the cause's number, or 0, the day and the number of series; beside 31 the place in `day`.
 #[repr(C)]
 #[derive(Drop)]
 pub struct Contents {
     pub number: u16,
     pub day: u32,
     pub series: u32,
+}
+
+impl From<Result<Filed, Cause>> for Contents {
+    ghost from_gives = { λ read contents. contents ≡ contents_of read };
+
+    fn from(read: Result<Filed, Cause>) -> Contents {
+        match read {
+            Ok(filed) => Contents {
+                number: 0,
+                day: filed.day,
+                series: filed.series,
+            },
+            Err(cause) => Contents {
+                number: cause.number(),
+                day: cause.beside(),
+                series: 0,
+            },
+        }
+    }
 }

@@ -1,157 +1,143 @@
 // Journals: a line more, behind whole lines.
-use crate::{complain, fail, note, paths, trouble, whole};
-use system::{File, System};
+use crate::paths::{destination, follow};
+use crate::replacing::{discard, sync_folder};
+use crate::{Trouble, complain, fail, fail_after, note};
+use system::{Error, File, System};
 
-// The greatest place in a file.
-const FARTHEST: usize = 9223372036854775807;
+// How long a journal was when it was read, and how much of it is whole lines.
+#[derive(Clone, Copy)]
+pub struct Extent {
+    pub whole: usize,
+    pub size: usize,
+}
 
-fn open(system: &System, path: &[u8]) -> Option<File> {
-    let file = system.open_update(path);
-    if file.is_none() {
-        fail(system, path);
+impl Extent {
+    // Whether its last line was cut off.
+    fn is_cut(self) -> bool {
+        self.whole != self.size
     }
-    file
+}
+
+// The journal, open to be written.
+#[derive(Drop)]
+struct Journal<'a> {
+    system: &'a System,
+    path: &'a [u8],
+    file: File,
+}
+
+fn open(system: &System, path: &[u8]) -> Result<File, Trouble> {
+    system
+        .open_update(path)
+        .map_err(|error| fail(system, path, error))
 }
 
 // The file is closed before it is opened to be written.
-fn is_made(system: &System, path: &[u8]) -> bool {
-    system.create(path).is_some()
-}
-
-fn make(system: &System, path: &[u8]) -> Option<File> {
-    if !is_made(system, path) {
-        fail(system, path);
-        return None;
-    }
-    if !whole::sync_folder(system, path) {
-        trouble(
+fn make(system: &System, path: &[u8]) -> Result<File, Trouble> {
+    system
+        .create(path)
+        .map_err(|error| fail(system, path, error))?;
+    if let Err(error) = sync_folder(system, path) {
+        fail_after(
             system,
             path,
-            b"it was made, but its folder could not be brought to the disk",
+            "it was made, but its folder could not be brought to the disk",
+            error,
         );
     }
     let file = open(system, path);
-    if file.is_none() {
-        whole::discard(system, path);
+    if file.is_err() {
+        discard(system, path);
     }
     file
 }
 
-// Opens a journal for writing, and makes it where it is missing; none where that fails, and then trouble is told.
-fn open_or_make(system: &System, path: &[u8]) -> Option<File> {
-    let file = attributes::of(system, path);
-    if !whole::is_destination(system, path, file) {
-        return None;
+impl<'a> Journal<'a> {
+    // Makes the journal where it is missing.
+    fn open(system: &'a System, path: &'a [u8]) -> Result<Journal<'a>, Trouble> {
+        let file = match destination(system, path)? {
+            Some(_) => open(system, path)?,
+            None => make(system, path)?,
+        };
+        Ok(Journal { system, path, file })
     }
-    if file.is_there {
-        return open(system, path);
-    }
-    make(system, path)
-}
 
-// Whether the open file has so many bytes.
-fn has_size(system: &System, file: &File, path: &[u8], size: usize) -> bool {
-    let Some(end) = system.end(file) else {
-        fail(system, path);
-        return false;
-    };
-    if FARTHEST < size {
-        return false;
+    fn fail(&self, error: Error) -> Trouble {
+        fail(self.system, self.path, error)
     }
-    if end == size as u64 {
-        return true;
-    }
-    complain(
-        system,
-        path,
-        b"it was changed meanwhile: run the command again",
-    );
-    false
-}
 
-// Ends the file behind its whole lines where a line was cut off.
-fn cut(system: &System, file: &File, path: &[u8], whole: usize, size: usize) -> bool {
-    if whole == size {
-        return true;
+    fn fail_after(&self, what: &str, error: Error) -> Trouble {
+        fail_after(self.system, self.path, what, error)
     }
-    if FARTHEST < whole {
-        return false;
-    }
-    if !system.truncate(file, whole as u64) {
-        fail(system, path);
-        return false;
-    }
-    note(
-        system,
-        path,
-        b"its last line was cut off; it is taken away, since its call was never carried out",
-    );
-    true
-}
 
-// Tells that a line could not be kept and was taken away again. The error is still that of the call that failed: one that does
-// not fail leaves it.
-fn tell_unkept(system: &System, path: &[u8], is_cut: bool) {
-    if is_cut {
-        trouble(
-            system,
-            path,
-            b"the register is as it was, the call was not kept",
+    // That it has so many bytes.
+    fn check_size(&self, size: usize) -> Result<(), Trouble> {
+        match self.system.end(&self.file) {
+            Ok(end) if end == size as u64 => Ok(()),
+            Ok(_) => {
+                Err(complain(
+                    self.system,
+                    self.path,
+                    "it was changed meanwhile: run the command again",
+                ))
+            }
+            Err(error) => Err(self.fail(error)),
+        }
+    }
+
+    // Ends it behind its whole lines where a line was cut off.
+    fn cut(&self, read: Extent) -> Result<(), Trouble> {
+        if !read.is_cut() {
+            return Ok(());
+        }
+        self.system
+            .truncate(&self.file, read.whole as u64)
+            .map_err(|error| self.fail(error))?;
+        note(
+            self.system,
+            self.path,
+            "its last line was cut off; it is taken away, since its call was never carried out",
         );
-        return;
+        Ok(())
     }
-    fail(system, path);
-}
 
-// Puts a line behind all that the journal has and brings it to the disk. Where that fails the line, or what there is of it,
-// is taken away.
-fn append(system: &System, file: &File, path: &[u8], line: &[u8], is_cut: bool) -> bool {
-    let Some(end) = system.end(file) else {
-        tell_unkept(system, path, is_cut);
-        return false;
-    };
-    if system.write(file, line) && system.sync(file) {
-        return true;
+    // Tells that a line could not be kept and was taken away again, and why.
+    fn tell_unkept(&self, is_cut: bool, error: Error) -> Trouble {
+        if is_cut {
+            self.fail_after("the register is as it was, the call was not kept", error)
+        } else {
+            self.fail(error)
+        }
     }
-    if system.truncate(file, end) {
-        tell_unkept(system, path, is_cut);
-    } else {
-        trouble(
-            system,
-            path,
-            b"a line that was begun could not be taken away",
-        );
+
+    fn write(&self, line: &[u8]) -> Result<(), Error> {
+        self.system.write(&self.file, line)?;
+        self.system.sync(&self.file)
     }
-    false
-}
 
-fn keep_in(
-    system: &System,
-    file: &File,
-    path: &[u8],
-    whole: usize,
-    size: usize,
-    line: &[u8],
-) -> bool {
-    has_size(system, file, path, size)
-        && cut(system, file, path, whole, size)
-        && append(system, file, path, line, whole != size)
-}
-
-fn keep_real(system: &System, path: &[u8], whole: usize, size: usize, line: &[u8]) -> bool {
-    match open_or_make(system, path) {
-        Some(file) => keep_in(system, &file, path, whole, size, line),
-        None => false,
+    // Puts a line behind all that it has and brings it to the disk. Where that fails the line, or what there is of it, is taken
+    // away.
+    fn append(&self, line: &[u8], is_cut: bool) -> Result<(), Trouble> {
+        let end = self
+            .system
+            .end(&self.file)
+            .map_err(|error| self.tell_unkept(is_cut, error))?;
+        let Err(error) = self.write(line) else {
+            return Ok(());
+        };
+        Err(match self.system.truncate(&self.file, end) {
+            Ok(()) => self.tell_unkept(is_cut, error),
+            Err(error) => self.fail_after("a line that was begun could not be taken away", error),
+        })
     }
 }
 
-// Puts a line behind the whole lines, the first bytes of a journal that had `size` bytes when it was read, and brings it to
-// the disk. A journal that is missing is made; links are followed.
-pub fn keep_line(system: &System, path: &[u8], whole: usize, size: usize, line: &[u8]) -> bool {
-    let mut real = system::buffer();
-    let end = paths::follow(system, path, &mut real);
-    if end == 0 {
-        return false;
-    }
-    keep_real(system, text::part(&real, 0, end), whole, size, line)
+// Puts a line behind the whole lines of a journal that was read, and brings it to the disk. A journal that is missing is made;
+// links are followed.
+pub fn keep_line(system: &System, path: &[u8], read: Extent, line: &[u8]) -> Result<(), Trouble> {
+    let real = follow(system, path)?;
+    let journal = Journal::open(system, real.as_bytes())?;
+    journal.check_size(read.size)?;
+    journal.cut(read)?;
+    journal.append(line, read.is_cut())
 }

@@ -8,14 +8,11 @@
 mod journals;
 mod loading;
 mod paths;
+mod replacing;
 mod telling;
-mod whole;
 
-pub use journals::keep_line;
-pub use loading::{Loaded, load, load_text, peek};
-pub use paths::{beside, follow, is_same, replaced_by};
-pub use telling::{complain, fail, note, trouble};
-pub use whole::{
-    Installed, discard, dress, finish, install, is_destination, lock, lock_first, put_in_place,
-    release, replace, save, settle,
-};
+pub use journals::{Extent, keep_line};
+pub use loading::{load, load_text, peek};
+pub use paths::{beside, destination, follow, is_same, known};
+pub use replacing::{Moved, NewFile, Saved, Target, replace};
+pub use telling::{Trouble, complain, complain_bytes, fail, fail_after, note};

@@ -1,73 +1,75 @@
 // What is told on standard error: a line with the file and what is the matter.
-use system::{
-    EACCES, EDQUOT, EFBIG, EILSEQ, EIO, EISDIR, ELOOP, ENAMETOOLONG, ENOENT, ENOSPC, ENOTDIR,
-    EPERM, EROFS, Stream, System,
-};
+use std::fmt::Display;
+use system::{Error, System};
+use text::Text;
 
-// Room for what an error begins with.
-const LEAD: usize = 64;
+// Room for the words of a message, with the names of three files in quotes.
+const WORDS: usize = 65536;
 
-// Room for the words of a reason.
-const REASON: usize = 64;
+// The errors that come most.
+const LIKELY: [Error; 13] = [
+    Error::EPERM,
+    Error::ENOENT,
+    Error::EIO,
+    Error::EACCES,
+    Error::ENOTDIR,
+    Error::EISDIR,
+    Error::EFBIG,
+    Error::ENOSPC,
+    Error::EROFS,
+    Error::ENAMETOOLONG,
+    Error::ELOOP,
+    Error::EILSEQ,
+    Error::EDQUOT,
+];
+
+// That a command came into trouble, which is told already.
+#[derive(Clone, Copy, Debug)]
+pub struct Trouble;
+
+fn words(what: impl Display + Drop) -> Text<WORDS> {
+    let mut words = Text::new();
+    words.say(what);
+    words
+}
+
+fn note_bytes(system: &System, path: &[u8], what: &[u8]) {
+    system.tell(path);
+    system.tell(b": ");
+    system.tell(what);
+    system.tell(b"\n");
+}
 
 // For what is no error, or where something was changed.
-pub fn note(system: &System, path: &[u8], what: &[u8]) {
-    system.write_to(Stream::Error, path);
-    system.write_to(Stream::Error, b": ");
-    system.write_to(Stream::Error, what);
-    system.write_to(Stream::Error, b"\n");
+pub fn note(system: &System, path: &[u8], what: impl Display + Drop) {
+    note_bytes(system, path, words(what).as_bytes());
 }
 
 // An error. A command that changes files ends with it before it has changed one.
-pub fn complain(system: &System, path: &[u8], what: &[u8]) {
-    let mut lead = [0u8; LEAD];
-    let end = commands::put_lead(system, &mut lead, 0);
-    system.write_to(Stream::Error, text::part(&lead, 0, end));
-    note(system, path, what);
+pub fn complain(system: &System, path: &[u8], what: impl Display + Drop) -> Trouble {
+    complain_bytes(system, path, words(what).as_bytes())
 }
 
-// What is the matter with a name, in the system's words.
-fn reason_by_name(out: &mut [u8], error: i32) -> usize {
-    match error {
-        ENOENT => text::put(out, 0, b"No such file or directory"),
-        ENOTDIR => text::put(out, 0, b"Not a directory"),
-        EISDIR => text::put(out, 0, b"Is a directory"),
-        ENAMETOOLONG => text::put(out, 0, b"File name too long"),
-        ELOOP => text::put(out, 0, b"Too many levels of symbolic links"),
-        EILSEQ => text::put(out, 0, b"Invalid or incomplete multibyte or wide character"),
-        _ => 0,
-    }
+// The same with bytes that may be no text, as a name or a line of a file that were put among the words.
+pub fn complain_bytes(system: &System, path: &[u8], what: &[u8]) -> Trouble {
+    system.tell(commands::lead(system).as_bytes());
+    note_bytes(system, path, what);
+    Trouble
 }
 
-// The likely errors in the system's words; 0 for another.
-fn reason(out: &mut [u8], error: i32) -> usize {
-    match error {
-        EPERM => text::put(out, 0, b"Operation not permitted"),
-        EIO => text::put(out, 0, b"Input/output error"),
-        EACCES => text::put(out, 0, b"Permission denied"),
-        ENOSPC => text::put(out, 0, b"No space left on device"),
-        EROFS => text::put(out, 0, b"Read-only file system"),
-        EFBIG => text::put(out, 0, b"File too large"),
-        EDQUOT => text::put(out, 0, b"Disk quota exceeded"),
-        _ => reason_by_name(out, error),
+// Why a call of the system failed. With an error that seldom comes what the command changes is not told.
+pub fn fail(system: &System, path: &[u8], error: Error) -> Trouble {
+    if LIKELY.contains(&error) {
+        return complain(system, path, error);
     }
-}
-
-// Why the last call of the system failed. Where there are no words for it here, the system has the word, and what the command
-// changes is not told.
-pub fn fail(system: &System, path: &[u8]) {
-    let mut words = [0u8; REASON];
-    let end = reason(&mut words, system.error());
-    if end == 0 {
-        system.fail(path);
-        return;
-    }
-    complain(system, path, text::part(&words, 0, end));
+    system.fail(path, error);
+    Trouble
 }
 
 // What is the matter and why, where something was changed: no more than the error is looked at.
-pub fn trouble(system: &System, path: &[u8], what: &[u8]) {
-    system.write_to(Stream::Error, path);
-    system.write_to(Stream::Error, b": ");
-    system.fail(what);
+pub fn fail_after(system: &System, path: &[u8], what: &str, error: Error) -> Trouble {
+    system.tell(path);
+    system.tell(b": ");
+    system.fail(what.as_bytes(), error);
+    Trouble
 }

@@ -2,192 +2,173 @@
 //
 // Both new files are made before the register is read, and written before anything moves. The file moves first, the register at once
 // behind it. A run that is cut off between the two leaves the old register: the same command is accepted again and completes the
-// work. The names are those of the new files; that of the file is empty where none is asked for.
-use commands::WITH_FILE;
-use files::Installed;
-use system::{File, System};
+// work.
+use crate::making::series_of;
+use commands::Opt;
+use files::{NewFile, Saved, Target, Trouble};
+use loader::MOST_LENGTH;
+use reading::Register;
+use system::System;
 
-// The new files of a run, open.
+// The names of the register that word 3 leads to, and of the file that --file asks for.
 #[derive(Drop)]
-pub struct Locks {
-    pub register: File,
-    // None where no file of series is asked for.
-    pub file: Option<File>,
+pub struct Targets {
+    register: Target,
+    file: Option<Target>,
 }
 
+// Their new files, open.
 #[derive(Drop)]
-pub enum Saved {
-    // So many bytes of the file of series; 0 where none is asked for.
-    Bytes(usize),
-    // Both new files are taken away; told already.
-    Failed,
+pub struct NewFiles<'a> {
+    register: NewFile<'a>,
+    file: Option<NewFile<'a>>,
 }
 
-// Puts the name of the new file beside the one that --file names into the buffer and answers its length: 0 where none is asked
-// for, and where it cannot be had, which is told.
-pub fn named(system: &System, beside: &mut [u8]) -> usize {
-    let mut word = system::buffer();
-    let n = commands::value(system, WITH_FILE, &mut word);
-    if n == 0 {
-        return 0;
-    }
-    let mut path = system::buffer();
-    let end = files::follow(system, text::part(&word, 0, n), &mut path);
-    if end == 0 {
-        return 0;
-    }
-    files::beside(system, text::part(&path, 0, end), beside)
+// Their new files, on the disk.
+#[derive(Drop)]
+pub struct SavedFiles<'a> {
+    register: Saved<'a>,
+    file: Option<SavedSeries<'a>>,
 }
 
-fn lock_file(system: &System, register: File, beside: &[u8], file_beside: &[u8]) -> Option<Locks> {
-    let Some(file) = files::lock(system, files::replaced_by(file_beside), file_beside) else {
-        files::release(system, register, beside);
-        return None;
+// A new file of series on the disk, and how many bytes it has.
+#[derive(Drop)]
+struct SavedSeries<'a> {
+    saved: Saved<'a>,
+    length: usize,
+}
+
+impl Targets {
+    pub fn named(system: &System) -> Result<Targets, Trouble> {
+        let register = Target::new(system, terminal::followed(system, 3)?)?;
+        let file = match commands::value(system, Opt::File) {
+            Some(name) => Some(Target::new(system, files::follow(system, name.as_bytes())?)?),
+            None => None,
+        };
+        Ok(Targets { register, file })
+    }
+
+    // The register's path.
+    pub fn register(&self) -> &[u8] {
+        self.register.path()
+    }
+
+    // Makes both new files, or neither.
+    pub fn lock(&self, system: &System) -> Result<NewFiles<'_>, Trouble> {
+        let register = self.register.lock(system, self.file.as_ref())?;
+        let Some(target) = &self.file else {
+            return Ok(NewFiles {
+                register,
+                file: None,
+            });
+        };
+        match target.lock(system, None) {
+            Ok(file) => Ok(NewFiles {
+                register,
+                file: Some(file),
+            }),
+            Err(trouble) => {
+                register.release(system);
+                Err(trouble)
+            }
+        }
+    }
+}
+
+impl<'a> NewFiles<'a> {
+    // Takes both away again.
+    pub fn release(self, system: &System) {
+        let NewFiles { register, file } = self;
+        if let Some(file) = file {
+            file.release(system);
+        }
+        register.release(system);
+    }
+
+    // Writes both, for a register as a call left it, and brings them to the disk. Where that fails both are taken away.
+    pub fn save(self, system: &System, left: Register<'_>) -> Result<SavedFiles<'a>, Trouble> {
+        let NewFiles { register, file } = self;
+        match file {
+            Some(file) => save_both(system, register, file, left),
+            None => Ok(SavedFiles {
+                register: register.save(system, left.bytes)?,
+                file: None,
+            }),
+        }
+    }
+}
+
+// Every register that a call left has a file of its new series.
+fn save_both<'a>(
+    system: &System,
+    register: NewFile<'a>,
+    file: NewFile<'a>,
+    left: Register<'_>,
+) -> Result<SavedFiles<'a>, Trouble> {
+    let mut room = space::zeros::<MOST_LENGTH>();
+    let Ok(series) = series_of(left, &mut room) else {
+        file.release(system);
+        register.release(system);
+        return Err(files::complain(system, b"the file of series", "it could not be made"));
     };
-    Some(Locks {
-        register: register,
-        file: Some(file),
-    })
-}
-
-// Makes both new files, or neither; none where they could not be had, which is told.
-pub fn lock(system: &System, beside: &[u8], file_beside: &[u8]) -> Option<Locks> {
-    let Some(register) = files::lock_first(system, files::replaced_by(beside), beside, file_beside)
-    else {
-        return None;
+    let register = match register.save(system, left.bytes) {
+        Ok(saved) => saved,
+        Err(trouble) => {
+            file.release(system);
+            return Err(trouble);
+        }
     };
-    if file_beside.len() == 0 {
-        return Some(Locks {
-            register: register,
-            file: None,
-        });
-    }
-    lock_file(system, register, beside, file_beside)
-}
-
-// Takes both away again while they are open.
-pub fn release(system: &System, locks: Locks, beside: &[u8], file_beside: &[u8]) {
-    let Locks { register, file } = locks;
-    if let Some(file) = file {
-        files::release(system, file, file_beside);
-    }
-    files::release(system, register, beside);
-}
-
-// The same when they are written.
-pub fn discard(system: &System, beside: &[u8], file_beside: &[u8]) {
-    if file_beside.len() != 0 {
-        files::discard(system, file_beside);
-    }
-    files::discard(system, beside);
-}
-
-fn save_both(
-    system: &System,
-    opened: File,
-    opened_file: File,
-    beside: &[u8],
-    file_beside: &[u8],
-    register: &[u8],
-    file: &[u8],
-) -> Saved {
-    if !files::save(system, opened, files::replaced_by(beside), beside, register) {
-        files::release(system, opened_file, file_beside);
-        return Saved::Failed;
-    }
-    let path = files::replaced_by(file_beside);
-    if files::save(system, opened_file, path, file_beside, file) {
-        return Saved::Bytes(file.len());
-    }
-    files::discard(system, beside);
-    Saved::Failed
-}
-
-// With the file of the register's new series, which every register that a call left has.
-fn save_with_file(
-    system: &System,
-    opened: File,
-    opened_file: File,
-    beside: &[u8],
-    file_beside: &[u8],
-    calendar: &[u8],
-    register: &[u8],
-) -> Saved {
-    let mut file = space::series();
-    let written = loader::write(calendar, register, &mut file);
-    if written.number != 0 {
-        files::release(system, opened_file, file_beside);
-        files::release(system, opened, beside);
-        files::complain(system, b"the file of series", b"it could not be made");
-        return Saved::Failed;
-    }
-    let bytes = text::part(&file, 0, written.length as usize);
-    save_both(
-        system,
-        opened,
-        opened_file,
-        beside,
-        file_beside,
-        register,
-        bytes,
-    )
-}
-
-// Writes both new files and brings them to the disk.
-pub fn save(
-    system: &System,
-    locks: Locks,
-    beside: &[u8],
-    file_beside: &[u8],
-    calendar: &[u8],
-    register: &[u8],
-) -> Saved {
-    let Locks {
-        register: opened,
-        file,
-    } = locks;
-    if let Some(opened_file) = file {
-        return save_with_file(
-            system,
-            opened,
-            opened_file,
-            beside,
-            file_beside,
-            calendar,
+    match file.save(system, series) {
+        Ok(saved) => Ok(SavedFiles {
             register,
-        );
+            file: Some(SavedSeries {
+                saved,
+                length: series.len(),
+            }),
+        }),
+        Err(trouble) => {
+            register.discard(system);
+            Err(trouble)
+        }
     }
-    if files::save(system, opened, files::replaced_by(beside), beside, register) {
-        return Saved::Bytes(0);
-    }
-    Saved::Failed
 }
 
-// The worse of what became of two folders.
-fn settled(file: Installed, register: Installed) -> Installed {
-    if let Installed::Done = file {
-        return register;
+impl SavedFiles<'_> {
+    // How many bytes the file of series has, if one is asked for.
+    pub fn length(&self) -> Option<usize> {
+        self.file.as_ref().map(|file| file.length)
     }
-    file
+
+    // Takes both away again.
+    pub fn discard(self, system: &System) {
+        let SavedFiles { register, file } = self;
+        if let Some(file) = file {
+            file.saved.discard(system);
+        }
+        register.discard(system);
+    }
+
+    // Puts both in place.
+    pub fn install(self, system: &System) -> Result<(), Trouble> {
+        let SavedFiles { register, file } = self;
+        match file {
+            Some(file) => install_both(system, register, file.saved),
+            None => register.install(system, ""),
+        }
+    }
 }
 
-fn install_both(system: &System, beside: &[u8], file_beside: &[u8]) -> Installed {
-    let path = files::replaced_by(beside);
-    let file = files::replaced_by(file_beside);
-    if !files::put_in_place(system, file, file_beside, b"") {
-        files::discard(system, beside);
-        return Installed::Failed;
-    }
-    if !files::put_in_place(system, path, beside, b"the file of series did move; ") {
-        return Installed::Failed;
-    }
-    settled(files::settle(system, file), files::settle(system, path))
-}
-
-// Puts both new files in place.
-pub fn install(system: &System, beside: &[u8], file_beside: &[u8]) -> Installed {
-    if file_beside.len() == 0 {
-        return files::install(system, files::replaced_by(beside), beside, b"");
-    }
-    install_both(system, beside, file_beside)
+// Both folders are brought to the disk, whatever became of the other.
+fn install_both(system: &System, register: Saved<'_>, file: Saved<'_>) -> Result<(), Trouble> {
+    let file = match file.put_in_place(system, "") {
+        Ok(moved) => moved,
+        Err(trouble) => {
+            register.discard(system);
+            return Err(trouble);
+        }
+    };
+    let register = register.put_in_place(system, "the file of series did move; ")?;
+    let file = file.settle(system);
+    let register = register.settle(system);
+    file.and(register)
 }

@@ -1,7 +1,7 @@
 -- The three grids are one, at strides 1, 2 and 4: the prices of grid N are numbered from 1 to 507, grid M has the even numbers and
 -- grid F the multiples of 4. Only contracts of leaves speak of numbers and strides; no sentence of document 01 does.
 -- Assumes nothing.
-use Rattle.std.specs.Prelude.{◌≡◌, Bool, cond, ℕ, ◌+◌, ◌-◌, ◌*◌, ◌%◌, ◌≤◌, ◌<◌, ltb, eqb}
+use Rattle.std.specs.Prelude.{◌≡◌, Bool, cond, Option, Some, None, ℕ, ◌+◌, ◌-◌, ◌*◌, ◌%◌, ◌≤◌, ◌<◌, ltb, eqb}
 use Rattle.base.specs.Search.{last_up_to}
 use Rattle.base.specs.declared.Tier.{Tier}
 use Rattle.base.specs.declared.Tier.TheVariants.{N, M, F}
@@ -21,6 +21,10 @@ has_price p j = eqb (price j) p
 
 unfoldable pub number_of : ℕ → ℕ
 number_of p = last_up_to (has_price p) top_number
+
+-- the same, if grid N has the price
+abbrev pub some_number : ℕ → Option ℕ
+some_number p = cond (eqb (number_of p) 0) None (Some (number_of p))
 
 unfoldable pub stride : Tier → ℕ
 stride N = 1

@@ -1,42 +1,41 @@
-// The files of a command, one a slot: its words from the second on, and behind them those that its options name.
-use commands::{JOURNAL, NONE, WITH_FILE};
-use system::System;
+// The files of a command: those that its words name, and those that its options name.
+use commands::{Command, FileUse, Opt};
+use system::{PATH_MAX, System};
+use text::Text;
 
-pub const FIRST: u32 = 2;
-
-const OPTIONS: u32 = 6;
-
-pub const END: u32 = 8;
-
-fn option(slot: u32) -> u8 {
-    if slot == OPTIONS { JOURNAL } else { WITH_FILE }
+#[derive(Clone, Copy, PartialEq, Eq, Debug)]
+pub enum Slot {
+    Word(usize),
+    Option(Opt),
 }
 
-pub fn kind(command: u32, slot: u32) -> u8 {
-    if OPTIONS <= slot {
-        return commands::option_kind(option(slot));
-    }
-    commands::kind(command, slot as usize)
+pub const SLOTS: [Slot; 6] = [
+    Slot::Word(2),
+    Slot::Word(3),
+    Slot::Word(4),
+    Slot::Word(5),
+    Slot::Option(Opt::Journal),
+    Slot::Option(Opt::File),
+];
+
+// A file by the name that it was given, and what the command does with it.
+#[derive(Drop)]
+pub struct Given {
+    pub name: Text<PATH_MAX>,
+    pub file: FileUse,
 }
 
-pub fn access(system: &System, command: u32, slot: u32) -> u8 {
-    if OPTIONS <= slot {
-        return option_access(system, option(slot));
+impl Slot {
+    // The file that stands there. A dash is none: it stands for a standard stream, and where none may stand the words were
+    // refused.
+    pub fn given(self, system: &System, command: Command) -> Option<Given> {
+        let (file, name) = match self {
+            Slot::Word(i) => (command.file(i)?, commands::word(system, i)),
+            Slot::Option(option) => (option.file()?, commands::value(system, option)?),
+        };
+        if name.as_bytes().is_empty() || commands::is_stream(name.as_bytes()) {
+            return None;
+        }
+        Some(Given { name, file })
     }
-    commands::access(command, slot as usize)
-}
-
-fn option_access(system: &System, option: u8) -> u8 {
-    if commands::has(system, option) {
-        return commands::option_access(option);
-    }
-    NONE
-}
-
-// Puts the file's name at the start of the buffer and answers its length.
-pub fn name(system: &System, slot: u32, buffer: &mut [u8]) -> usize {
-    if OPTIONS <= slot {
-        return commands::value(system, option(slot), buffer);
-    }
-    commands::word(system, slot as usize, buffer)
 }

@@ -1,19 +1,57 @@
 // What the program says of itself: one text a command, behind its usage lines from the table of commands.
 #![tactic(auto)]
 
-use commands::{
-    ANNOUNCE, AUDIT, CALENDAR, CHECK, FILE, NAME, PICTURE, PREVIEW, REPLAY, ROWS, SERIES, SESSION,
-    SHOW, START, UNDO, WHY,
-};
-use system::{Stream, System};
+use commands::{Command, Usage};
+use std::fmt;
+use std::fmt::Display;
+
+// How a command is used, or how the program is where no command is named.
+#[derive(Clone, Copy, PartialEq, Eq, Debug)]
+pub struct Help(pub Option<Command>);
+
+impl Display for Help {
+    fn fmt<W: fmt::Write>(&self, f: &mut fmt::Formatter<W>) -> fmt::Result {
+        let Some(command) = self.0 else {
+            return f.write_str(OVERVIEW);
+        };
+        let usage = Usage { command, lead: "" };
+        let text = text(command);
+        write!(f, "{usage}{text}")
+    }
+}
 
 // The program's version; tests/install.sh compares it with those of the library and its bindings.
-const VERSION: [u8; 5] = *b"0.2.0";
+#[derive(Clone, Copy, PartialEq, Eq, Debug)]
+pub struct Version;
 
-fn overview(system: &System, to: Stream) -> bool {
-    system.write_to(
-        to,
-        b"sindhopul: the register of listed WIG20 options
+impl Display for Version {
+    fn fmt<W: fmt::Write>(&self, f: &mut fmt::Formatter<W>) -> fmt::Result {
+        f.write_str("sindhopul 0.2.0\n")
+    }
+}
+
+fn text(command: Command) -> &'static str {
+    match command {
+        Command::Start => START,
+        Command::Session => SESSION,
+        Command::Announce => ANNOUNCE,
+        Command::Calendar => CALENDAR,
+        Command::Check => CHECK,
+        Command::Preview => PREVIEW,
+        Command::Rows => ROWS,
+        Command::Show => SHOW,
+        Command::Picture => PICTURE,
+        Command::Name => NAME,
+        Command::Why => WHY,
+        Command::Replay => REPLAY,
+        Command::Audit => AUDIT,
+        Command::Undo => UNDO,
+        Command::File => FILE,
+        Command::Series => SERIES,
+    }
+}
+
+const OVERVIEW: &str = "sindhopul: the register of listed WIG20 options
 
   calendar LIST FILE                        make a session calendar from a list of days
   check CALENDAR                            check a session calendar
@@ -40,28 +78,18 @@ standard output.
 Days are written 2026-11-16, months 2026-12, or as their numbers; closes 2413.37, or in hundredths.
 Exit status: 0 done, 1 refused by a cause, 2 bad use or trouble with a file.
 sindhopul help COMMAND says more of a command, sindhopul --version which version this is.
-",
-    )
-}
+";
 
-fn start(system: &System, to: Stream) -> bool {
-    system.write_to(
-        to,
-        b"
+const START: &str = "
 Lists the six live months of DAY, a session day, around CLOSE, the close before it.
   CALENDAR   the session calendar, made by sindhopul calendar
   REGISTER   empty, or missing: then it is made
   --journal  FILE gets a line for the call and its answer, which replay and audit read; start makes it where it is missing
   --file     FILE gets the series that are listed, as sindhopul file writes them; it is replaced together with REGISTER
   --yes      takes a close without a point, as 241337
-",
-    )
-}
+";
 
-fn session(system: &System, to: Stream) -> bool {
-    system.write_to(
-        to,
-        b"
+const SESSION: &str = "
 Moves the register to DAY, the next session day, with CLOSE, the close before it: drops the month that expired,
 widens each ladder to take in what the close requires and what was announced, and says what was added and removed.
   REGISTER   replaced whole, never half written; while a run is at work, REGISTER.new is there
@@ -69,194 +97,81 @@ widens each ladder to take in what the close requires and what was announced, an
   --file     FILE gets the series that are new on DAY, as sindhopul file writes them; it is replaced together with REGISTER
   --yes      takes a close outside the ladder of the nearest month, or one without a point, as 241337
 sindhopul preview answers the same and changes no file; sindhopul undo takes the call back.
-",
-    )
-}
+";
 
-fn announce(system: &System, to: Stream) -> bool {
-    system.write_to(
-        to,
-        b"
+const ANNOUNCE: &str = "
 Takes in a strike that the exchange announced for MONTH; the next session lists it, and every strike up to it.
   REGISTER   replaced whole, never half written; while a run is at work, REGISTER.new is there
   --journal  FILE gets a line for the call and its answer, refused or not, which replay and audit read
-",
-    )
-}
+";
 
-fn calendar(system: &System, to: Stream) -> bool {
-    system.write_to(
-        to,
-        b"
+const CALENDAR: &str = "
 Makes a session calendar, 4,566 bytes: every weekday from 2000-01-01 to 2099-12-31 has a session but those of the list.
   LIST   one date a line: 2026-12-25 has no session; +2026-01-10 is an extra session on a Saturday or Sunday;
          # starts a comment; - is standard input
   FILE   replaced whole
 The first line that cannot be taken is told, and nothing is written.
-",
-    )
-}
+";
 
-fn check(system: &System, to: Stream) -> bool {
-    system.write_to(
-        to,
-        b"
+const CHECK: &str = "
 Says whether the calendar is accepted: 4,566 bytes, no bit set after 2099-12-31, and in every month a session from
 its first day to its third Friday.
-",
-    )
-}
+";
 
-fn preview(system: &System, to: Stream) -> bool {
-    system.write_to(
-        to,
-        b"
+const PREVIEW: &str = "
 What session would answer, with every row that it would add and what brings it in. No file is changed.
-",
-    )
-}
+";
 
-fn rows(system: &System, to: Stream) -> bool {
-    system.write_to(
-        to,
-        b"
+const ROWS: &str = "
 Each listed strike of MONTH, or of all six live months: price, first day, names of call and put, origin.
-",
-    )
-}
+";
 
-fn show(system: &System, to: Stream) -> bool {
-    system.write_to(
-        to,
-        b"
+const SHOW: &str = "
 The six ladders: month, tier, expiry, span, rows, rows that are new today; and the announcements that wait.
-",
-    )
-}
+";
 
-fn picture(system: &System, to: Stream) -> bool {
-    system.write_to(
-        to,
-        b"
+const PICTURE: &str = "
 Draws the six ladders into FILE as SVG: strikes against months, coloured by origin, today's rows marked.
   FILE   replaced whole; - is standard output
-",
-    )
-}
+";
 
-fn name(system: &System, to: Stream) -> bool {
-    system.write_to(
-        to,
-        b"
+const NAME: &str = "
 Reads the name of a series, as OW20L262400, or writes it.
-",
-    )
-}
+";
 
-fn why(system: &System, to: Stream) -> bool {
-    system.write_to(
-        to,
-        b"
+const WHY: &str = "
 Since when the series is listed and what brought it in; or why it is not listed, and which close or announcement
 would bring it in.
-",
-    )
-}
+";
 
-fn replay(system: &System, to: Stream) -> bool {
-    system.write_to(
-        to,
-        b"
+const REPLAY: &str = "
 Runs the calls of the journal from an empty register and writes REGISTER, replaced whole. Where a call answers
 another number than the journal tells, says which, and writes nothing.
   JOURNAL   - is standard input
   --force   replaces a register that runs, or moves it back in time
-",
-    )
-}
+";
 
-fn audit(system: &System, to: Stream) -> bool {
-    system.write_to(
-        to,
-        b"
+const AUDIT: &str = "
 Says whether the register is exactly what the calls of the journal give, and if not the first thing that differs.
 Exit status 1 where they differ.
   JOURNAL   - is standard input
-",
-    )
-}
+";
 
-fn undo(system: &System, to: Stream) -> bool {
-    system.write_to(
-        to,
-        b"
+const UNDO: &str = "
 Takes the last accepted call back: the register is made again from the calls before it. The line of the call stays in
 the journal as a comment.
   REGISTER   replaced whole, never half written; while a run is at work, REGISTER.new is there
-",
-    )
-}
+";
 
-fn file(system: &System, to: Stream) -> bool {
-    system.write_to(
-        to,
-        b"
+const FILE: &str = "
 Writes the series that are new on the register's day, a call and a put for each new row, for the loader: the day, then
 names and origins, names ascending. A day without new series gives a file with the day alone.
   FILE   replaced whole, never half written; while a run is at work, FILE.new is there
 start and session write it in one run with the register, with --file FILE.
-",
-    )
-}
+";
 
-fn series(system: &System, to: Stream) -> bool {
-    system.write_to(
-        to,
-        b"
+const SERIES: &str = "
 The day of a file of series and how many it has, then for each its name, month, type, strike and origin. Bytes that are
 no such file are refused, with the first place that is wrong, what stands there and what belongs there.
   FILE   up to 18,252,005 bytes, which name every series; - is standard input
-",
-    )
-}
-
-fn write_text(system: &System, to: Stream, command: u32) -> bool {
-    match command {
-        START => start(system, to),
-        SESSION => session(system, to),
-        ANNOUNCE => announce(system, to),
-        CALENDAR => calendar(system, to),
-        CHECK => check(system, to),
-        PREVIEW => preview(system, to),
-        ROWS => rows(system, to),
-        _ => write_more(system, to, command),
-    }
-}
-
-fn write_more(system: &System, to: Stream, command: u32) -> bool {
-    match command {
-        SHOW => show(system, to),
-        PICTURE => picture(system, to),
-        NAME => name(system, to),
-        WHY => why(system, to),
-        REPLAY => replay(system, to),
-        AUDIT => audit(system, to),
-        UNDO => undo(system, to),
-        FILE => file(system, to),
-        SERIES => series(system, to),
-        _ => overview(system, to),
-    }
-}
-
-// Says how a command is used, or how the program is where there is no such command; false where that cannot be written.
-pub fn tell(system: &System, to: Stream, command: u32) -> bool {
-    let mut out = system::buffer();
-    let end = commands::put_usage(&mut out, 0, command, b"");
-    system.write_to(to, text::part(&out, 0, end)) && write_text(system, to, command)
-}
-
-pub fn tell_version(system: &System, to: Stream) -> bool {
-    system.write_to(to, b"sindhopul ")
-        && system.write_to(to, &VERSION)
-        && system.write_to(to, b"\n")
-}
+";

@@ -22,7 +22,8 @@ use Rattle.calendar.specs.Live.{first_live, live_months, tier_of}
 use Rattle.grid.specs.Grid.{grid_of, close_taken}
 use Rattle.rules.specs.Rulebook as Rulebook
 use Rattle.rules.specs.Rulebook.{first_at, tier_at, rules, expiry_at}
-use Rattle.calls.specs.Calls.{Call, start, session, announce}
+use Rattle.calls.specs.declared.Call.{Call}
+use Rattle.calls.specs.declared.Call.TheVariants.{Start, Session, Announce}
 use Rattle.rules.proofs.RulebookLaws.{laws}
 use Rattle.layout.specs.Register.{empty, running, waiting_of, span_low, span_high, announce_causes}
 use Rattle.layout.specs.Bytes.{places_from, bytes_of, body_of, all_zero, reg_of, moment_of}
@@ -53,23 +54,23 @@ taken c lo hi = rw (within_i lo hi)
 
 -- nothing but the close is left to refuse it
 module _ (cal : List ℕ) (passes : Passes cal) (d c : ℕ) (hd : d ≤ 36524) (hs : has_session cal d ≡ true) (hl : first_live (expiry_of cal) d ≤ 1190) where
-  start_own : number (rules cal) (start d c) empty ≡ cause (not (close_taken c)) 21
+  start_own : number (rules cal) (Start d c) empty ≡ cause (not (close_taken c)) 21
   unfolding number rules Rulebook.begun Rulebook.moved first_at expiry_at
   start_own =
       passed _ 18 _ (rw (lt-ltb d 36525 (omega arith), hs))
       ∙ passed _ 20 _ (le-ltb 1190 (first_live (expiry_of cal) d) hl)
       ∙ alone (cause (not (close_taken c)) 21)
 
-  pub start-number : number_at (rules cal) (start d c) empty_register ≡ cause (not (close_taken c)) 21
+  pub start-number : number_at (rules cal) (Start d c) empty_register ≡ cause (not (close_taken c)) 21
   unfolding number_at rules
   start-number =
       let s = empty_stands cal in
-      says_own (rules cal) empty_register (number (rules cal) (start d c) (reg_of empty_register)) passes s.0 s.1
-      ∙ ap (number (rules cal) (start d c)) empty_read
+      says_own (rules cal) empty_register (number (rules cal) (Start d c) (reg_of empty_register)) passes s.0 s.1
+      ∙ ap (number (rules cal) (Start d c)) empty_read
       ∙ start_own
 
 pub start-accepted : (cal : List ℕ) → Passes cal → (d c : ℕ) → d ≤ 36524 → has_session cal d ≡ true → first_live (expiry_of cal) d ≤ 1190
-    → 9000 ≤ c → c ≤ 954999 → number_at (rules cal) (start d c) empty_register ≡ 0
+    → 9000 ≤ c → c ≤ 954999 → number_at (rules cal) (Start d c) empty_register ≡ 0
 start-accepted cal passes d c hd hs hl lo hi = start-number cal passes d c hd hs hl ∙ taken c lo hi
 
 -- ---- the other calls, on a running register: 11,264 bytes that are not all zero, keep the layout and are well formed
@@ -98,17 +99,17 @@ module _ (cal bs : List ℕ) where
 
     -- bytes 2–3 hold the day
     pub session-number : (d c : ℕ) → d ≡ next_session cal (at16 bs 2) → first_live (expiry_of cal) d ≤ 1190
-        → number_at (rules cal) (session d c) bs ≡ cause (not (close_taken c)) 21
+        → number_at (rules cal) (Session d c) bs ≡ cause (not (close_taken c)) 21
     unfolding number_at number rules Rulebook.begun Rulebook.moved first_at expiry_at body_of moment_of
     session-number d c e l =
         says _
-        ∙ ap (number (rules cal) (session d c)) (run_read run)
+        ∙ ap (number (rules cal) (Session d c)) (run_read run)
         ∙ passed _ 19 _ (rw (eq-eqb d (next_session cal (at16 bs 2)) e))
         ∙ passed _ 20 _ (le-ltb 1190 (first_live (expiry_of cal) d) l)
         ∙ alone (cause (not (close_taken c)) 21)
 
     pub session-accepted : (d c : ℕ) → d ≡ next_session cal (at16 bs 2) → first_live (expiry_of cal) d ≤ 1190 → 9000 ≤ c → c ≤ 954999
-        → number_at (rules cal) (session d c) bs ≡ 0
+        → number_at (rules cal) (Session d c) bs ≡ 0
     session-accepted d c e l lo hi = session-number d c e l ∙ taken c lo hi
 
     -- byte 1 holds how many wait
@@ -118,7 +119,7 @@ module _ (cal bs : List ℕ) where
         → elem p (grid_of (tier_of (first_live (expiry_of cal) next) m)) ≡ true
         → (p < span_low (body_of bs) m) ⊎ (span_high (body_of bs) m < p) → elem p (waiting_of m (body_of bs).waiting) ≡ false
         → get_or bs 1 0 < 32
-        → number_at (rules cal) (announce m p) bs ≡ 0
+        → number_at (rules cal) (Announce m p) bs ≡ 0
     unfolding number_at number announce_causes rules Rulebook.begun Rulebook.moved first_at expiry_at tier_at body_of moment_of cause first_cause
     announce-accepted m p l live later on out fresh room =
         says _
@@ -146,7 +147,7 @@ november = (refl, refl)
 pub november-first : (d : ℕ) → 9801 ≤ d → d ≤ 9820 → first_live (expiry_of every_day) d ≡ 322
 november-first d from to = every-day-first d 322 (lit< tt) (omega (arith, november.0)) (omega (arith, november.1))
 
-pub one-start-accepted : number_at (rules every_day) (start 9816 241337) empty_register ≡ 0
+pub one-start-accepted : number_at (rules every_day) (Start 9816 241337) empty_register ≡ 0
 one-start-accepted =
     start-accepted every_day every-day-passes 9816 241337 (lit≤ tt) (every-day-session 9816 (lit≤ tt))
     (omega (arith, november-first 9816 (lit≤ tt) (lit≤ tt))) (lit≤ tt) (lit≤ tt)

@@ -16,7 +16,7 @@ use Rattle.base.proofs.ListLaws.{elem-here, elem_there, select-count}
 use Rattle.base.proofs.CauseLaws.{none_of, not-cause}
 use Rattle.rules.specs.Rules.{Moment, Rules, next, last_first_month}
 use Rattle.rules.specs.Rulebook.{rules}
-use Rattle.calls.specs.Calls.{Call}
+use Rattle.calls.specs.declared.Call.{Call}
 use Rattle.rules.proofs.Laws.{Laws, total}
 use Rattle.rules.proofs.RulebookLaws.{laws}
 use Rattle.layout.specs.Rows.{Entry, entry_ok, Row, ladder, rows_of}

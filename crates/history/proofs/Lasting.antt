@@ -16,7 +16,8 @@ use Rattle.calendar.specs.Live.{first_live, live_months}
 use Rattle.calendar.proofs.LiveLaws.{live_mono, live-between}
 use Rattle.rules.specs.Rules.{Moment, Rules, next}
 use Rattle.rules.specs.Rulebook.{first_at, rules, expiry_at}
-use Rattle.calls.specs.Calls.{Call, start, session, announce}
+use Rattle.calls.specs.declared.Call.{Call}
+use Rattle.calls.specs.declared.Call.TheVariants.{Start, Session, Announce}
 use Rattle.rules.proofs.Laws.{Laws}
 use Rattle.rules.proofs.RulebookLaws.{laws}
 use Rattle.layout.specs.Rows.{Entry, find, prices_of}
@@ -115,13 +116,13 @@ module _ (cal : List ℕ) where
 
   accepted_lasts : (h : History) (b : Body) → Running R h b → (k : Call) → number R k (running b) ≡ 0 → (after : Body) × (accepted R k (running b) ≡ running after) × Lasts R b after
   unfolding number accepted announce_body session_body
-  accepted_lasts h b s (start d c) n = absurd (no16 n)
-  accepted_lasts h b s (session d c) n =
+  accepted_lasts h b s (Start d c) n = absurd (no16 n)
+  accepted_lasts h b s (Session d c) n =
       let t = session-told R b d c n in
       let day = L.move-day b.at d in
       let later = L.later b.at in
       (session_body R b (R.move b.at d) c, refl, record { day = omega arith; row = session-row R h b s L (R.move b.at d) c (ap (R.move b.at) t.0) })
-  accepted_lasts h b s (announce m p) n = (announce_body b m p, refl, record { day = omega arith; row = λ m p e l q. q })
+  accepted_lasts h b s (Announce m p) n = (announce_body b m p, refl, record { day = omega arith; row = λ m p e l q. q })
 
   module _ (bs : List ℕ) (run : Runs cal bs) (k : Call) where
     taken : number_at R k bs ≡ 0 → Runs cal (after_at R k bs) × Lasts R (body_of bs) (body_of (after_at R k bs))

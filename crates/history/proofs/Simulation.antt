@@ -15,7 +15,8 @@ use Rattle.base.proofs.ListLaws.{within_i, within_l, within_r, elem-select, leas
 use Rattle.base.proofs.CauseLaws.{none_of, not-cause}
 use Rattle.grid.specs.Grid.{close_taken}
 use Rattle.rules.specs.Rules.{Moment, Rules, next, last_first_month}
-use Rattle.calls.specs.Calls.{Call, start, session, announce}
+use Rattle.calls.specs.declared.Call.{Call}
+use Rattle.calls.specs.declared.Call.TheVariants.{Start, Session, Announce}
 use Rattle.rules.proofs.Laws.{Laws}
 use Rattle.layout.specs.Rows.{Entry, new_entry, rows_of, find, prices_of}
 use Rattle.layout.specs.Register.{Body, Reg, empty, running, waiting_of, span_low, span_high, listed, announce_causes}
@@ -263,7 +264,7 @@ module _ (R : Rules) where
             }
 
     -- ---- an announcement
-    pub after-announce : (m p : ℕ) → elem p (R.grid (next R b.at) m) ≡ true → Running R (accepted_call R (announce m p) h) (announce_body b m p)
+    pub after-announce : (m p : ℕ) → elem p (R.grid (next R b.at) m) ≡ true → Running R (accepted_call R (Announce m p) h) (announce_body b m p)
     unfolding accepted_call announce_body key
     after-announce m p g =
         record {
@@ -310,7 +311,7 @@ module _ (R : Rules) where
       let z₂ = (none_of _ _ z₁).1 in
       not-false _ (not-cause _ 22 (none_of _ _ z₂).0)
 
-  pub session-told : (b : Body) (d c : ℕ) → number R (session d c) (running b) ≡ 0
+  pub session-told : (b : Body) (d c : ℕ) → number R (Session d c) (running b) ≡ 0
       → (d ≡ R.next_day b.at) × (ltb last_first_month (R.first_live (R.move b.at d)) ≡ false) × (close_taken c ≡ true)
   unfolding number
   session-told b d c z =
@@ -325,15 +326,15 @@ module _ (R : Rules) where
   module _ (L : Laws R) where
     pub accept : (k : Call) (h : History) (r : Reg) → number R k r ≡ 0 → Agree R h r → Agree R (accepted_call R k h) (accepted R k r)
     unfolding number accepted_call accepted
-    accept (start d c) h empty z a =
+    accept (Start d c) h empty z a =
         let z₁ = (none_of _ _ z).1 in
         let z₂ = (none_of _ _ z₁).1 in
         after-start h a.1 a.2 L (R.begin d) c (not-false (close_taken c) (not-cause (not (close_taken c)) 20 (none_of _ _ z₂).0)) (L.good-begin d)
-    accept (start d c) h (running b) z a = absurd (no16 z)
-    accept (session d c) h empty z a = absurd (no17 z)
-    accept (session d c) h (running b) z a =
+    accept (Start d c) h (running b) z a = absurd (no16 z)
+    accept (Session d c) h empty z a = absurd (no17 z)
+    accept (Session d c) h (running b) z a =
         let t = session-told b d c z in
         rw (with-day d c h b.at a.at_is) (after-session h b a L (R.move b.at d) c t.2 (ap (R.move b.at) t.0))
-    accept (announce m p) h empty z a = absurd (no17 z)
-    accept (announce m p) h (running b) z a =
+    accept (Announce m p) h empty z a = absurd (no17 z)
+    accept (Announce m p) h (running b) z a =
         after-announce h b a m p (on-grid b m p (none_of _ _ z).0)

@@ -14,7 +14,8 @@ use Rattle.base.proofs.Tests.{by_bool, and_l, and_r, and_i, or_fr, eqb_self}
 use Rattle.base.proofs.CauseLaws.{none_of, not-cause}
 use Rattle.dates.specs.Months.{day_count}
 use Rattle.rules.specs.Rules.{Moment, Rules, last_first_month}
-use Rattle.calls.specs.Calls.{Call, start, session, announce}
+use Rattle.calls.specs.declared.Call.{Call}
+use Rattle.calls.specs.declared.Call.TheVariants.{Start, Session, Announce}
 use Rattle.rules.proofs.Laws.{Laws}
 use Rattle.layout.specs.Rows.{Entry, new_entry, entry_ok, Row, ladder, rows_of, find}
 use Rattle.layout.specs.Register.{Body, Reg, empty, running, waiting_of, span_low, span_high, same_keys, entries_ok, listed, announce_causes, waiting_ok, well_formed}
@@ -195,13 +196,13 @@ module _ (R : Rules) where
 
     pub sound_accept : (k : Call) (r : Reg) → number R k r ≡ 0 → SoundReg r → SoundReg (accepted R k r)
     unfolding number accepted
-    sound_accept (start d c) empty z v =
+    sound_accept (Start d c) empty z v =
         let z₁ = (none_of _ _ z).1 in
         sound-start d c (and_r (ltb d day_count) _ (not-false _ (not-cause _ 17 (none_of _ _ z).0))) (not-cause _ 19 (none_of _ _ z₁).0)
-    sound_accept (start d c) (running b) z v = v
-    sound_accept (session d c) empty z v = v
-    sound_accept (session d c) (running b) z v = let t = session-told R b d c z in sound-session b d c v t.0 t.1
-    sound_accept (announce m p) empty z v = v
-    sound_accept (announce m p) (running b) z v =
+    sound_accept (Start d c) (running b) z v = v
+    sound_accept (Session d c) empty z v = v
+    sound_accept (Session d c) (running b) z v = let t = session-told R b d c z in sound-session b d c v t.0 t.1
+    sound_accept (Announce m p) empty z v = v
+    sound_accept (Announce m p) (running b) z v =
         let z₁ = (none_of _ _ z).1 in
         sound-announce b m p v (none_of _ _ z).0 (not-cause _ 24 (none_of _ _ z₁).0)

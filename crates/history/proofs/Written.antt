@@ -19,7 +19,7 @@ use Rattle.grid.proofs.Prices.{price_mono}
 use Rattle.grid.proofs.Grids.{number-on}
 use Rattle.rules.specs.Rules.{Rules, next}
 use Rattle.rules.specs.Rulebook.{first_at, tier_at, rules, expiry_at}
-use Rattle.calls.specs.Calls.{Call}
+use Rattle.calls.specs.declared.Call.{Call}
 use Rattle.rules.proofs.Laws.{Laws}
 use Rattle.rules.proofs.RulebookLaws.{laws}
 use Rattle.layout.specs.Register.{Body, Reg, empty, running, waiting_of, announce_causes, waiting_ok}

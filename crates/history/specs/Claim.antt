@@ -4,7 +4,7 @@ use Rattle.std.specs.Prelude.{◌≡◌, Bool, true, ◌&&◌, ◌||◌, List, [
 use Rattle.std.proofs.Math.Option.{Option, none, some}
 use Rattle.base.specs.Lists.{elem}
 use Rattle.rules.specs.Rules.{Moment, Rules}
-use Rattle.calls.specs.Calls.{Call}
+use Rattle.calls.specs.declared.Call.{Call}
 use Rattle.layout.specs.Rows.{Row}
 use Rattle.layout.specs.Bytes.{register_length, most_rows, rows_from, read_rows}
 use Rattle.base.specs.Words.{at16}

@@ -5,7 +5,8 @@ use Rattle.std.specs.Prelude.{true, false, cond, ◌&&◌, List, [], ◌∷◌, 
 use Rattle.std.proofs.Math.Option.{Option, none, some, get_or}
 use Rattle.base.specs.Lists.{elem, select, within, least_of, greatest_of}
 use Rattle.rules.specs.Rules.{Moment, Rules}
-use Rattle.calls.specs.Calls.{Call, start, session, announce}
+use Rattle.calls.specs.declared.Call.{Call}
+use Rattle.calls.specs.declared.Call.TheVariants.{Start, Session, Announce}
 
 -- a day, at first none; the announced prices waiting, each with its month; a lowest and a highest price for each live month;
 -- first days for prices of these months
@@ -76,9 +77,9 @@ module _ (R : Rules) where
 
   -- announce: month and price join those waiting
   unfoldable pub accepted_call : Call → History → History
-  accepted_call (start d c) h = on_start (R.begin d) c h
-  accepted_call (session d c) h = if_day h.at h (λ e. on_session e (R.move e d) c h)
-  accepted_call (announce m p) h =
+  accepted_call (Start d c) h = on_start (R.begin d) c h
+  accepted_call (Session d c) h = if_day h.at h (λ e. on_session e (R.move e d) c h)
+  accepted_call (Announce m p) h =
       record { at = h.at; waiting = h.waiting ++ ((m, p) ∷ []); low = h.low; high = h.high; first = h.first }
 
   -- a call whose number is not 0 leaves it as it is

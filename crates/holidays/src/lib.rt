@@ -1,17 +1,20 @@
 // A calendar's bytes from a list of weekdays without session and of extra sessions, as the exchange publishes them.
 #![tactic(auto)]
 
-ghost use Rattle.std.specs.Prelude.{◌≡◌, ◌&&◌, ℕ, ◌%◌, ◌^◌, ltb, length, replicate};
+ghost use Rattle.std.specs.Prelude.{◌≡◌, ◌&&◌, ℕ, ◌%◌, ◌^◌, cond, ltb, length};
 ghost use Rattle.dates.specs.Months.{day_count};
 ghost use Rattle.calendar.specs.Calendar.{calendar_length, session};
 ghost use Rattle.holidays.specs.Sessions.{weekday, with_session, without_session};
 
 use calendar::CALENDAR_LENGTH;
 use dates::DAYS;
-use text::{END_YEAR, Parsed};
+use lines::Words;
+use std::fmt;
+use std::fmt::Display;
+use text::END_YEAR;
 
 // Why a line is refused.
-#[derive(Drop)]
+#[derive(Clone, Copy, PartialEq, Eq, Debug)]
 pub enum Reason {
     NotDate,
     Late,
@@ -21,19 +24,28 @@ pub enum Reason {
     Weekday,
 }
 
-#[derive(Drop)]
-pub enum Made {
-    Done,
-    // The calendar has not 4,566 bytes.
-    WrongLength,
-    // The first line that cannot be taken, and why. The calendar is of no use then.
-    Refused(u32, Reason),
+impl Display for Reason {
+    fn fmt<W: fmt::Write>(&self, f: &mut fmt::Formatter<W>) -> fmt::Result {
+        f.write_str(match self {
+            Reason::NotDate =>
+                "not a date from 2000-01-01 on: write 2026-12-25, or +2026-01-10 for an extra session",
+            Reason::Late => "past 2099-12-31, the calendar's last day",
+            Reason::Weekend =>
+                "a Saturday or Sunday has no session anyway; write + before an extra session",
+            Reason::Weekday => "a weekday has a session anyway; + is for a Saturday or Sunday",
+        })
+    }
 }
 
-#[derive(Drop)]
-enum Entry {
-    Taken,
-    Bad(Reason),
+pub type Refused<'a> = lines::Refused<'a, Reason>;
+
+// Why no calendar is made. It is of no use then.
+#[derive(Clone, Copy, Debug)]
+pub enum Fault<'a> {
+    // The calendar has not 4,566 bytes.
+    WrongLength,
+    // The first line that cannot be taken.
+    Line(Refused<'a>),
 }
 
 // Day 0 is a Saturday.
@@ -50,33 +62,19 @@ fn weight(day: u32) -> u8
     1u8 << (day % 8)
 }
 
-// Gives a day a session.
-fn set_session(calendar: &mut [u8], day: u32)
-    ensures { calendar.new ≡ with_session calendar.old day }
+// Gives a day a session, or takes it away.
+#[tactic(auto, unfolding(crate::specs::Sessions::with_session, crate::specs::Sessions::without_session))]
+fn set_session(calendar: &mut [u8], day: u32, has: bool)
+    ensures { calendar.new ≡ cond has (with_session calendar.old day) (without_session calendar.old day) }
 {
     let at = (day / 8) as usize;
     if at < calendar.len() {
-        calendar[at] = calendar[at] | weight(day);
-    }
-}
-
-// Takes a day's session away.
-fn unset_session(calendar: &mut [u8], day: u32)
-    ensures { calendar.new ≡ without_session calendar.old day }
-{
-    let at = (day / 8) as usize;
-    if at < calendar.len() {
-        calendar[at] = calendar[at] & !weight(day);
-    }
-}
-
-fn clear(calendar: &mut [u8])
-    ensures { calendar.new ≡ replicate (length calendar.old) 0 }
-{
-    let mut i: usize = 0;
-    while i < calendar.len() {
-        calendar[i] = 0;
-        i += 1;
+        let weight = weight(day);
+        calendar[at] = if has {
+            calendar[at] | weight
+        } else {
+            calendar[at] & !weight
+        };
     }
 }
 
@@ -85,140 +83,67 @@ fn set_weekdays(calendar: &mut [u8])
     requires { length calendar.old ≡ calendar_length }
     ensures { (n : ℕ) → session calendar.new n ≡ (ltb n day_count && weekday n) }
 {
-    clear(calendar);
-    let mut day: u32 = 0;
-    while day < DAYS as u32 {
+    calendar.fill(0);
+    for day in 0..u32::from(DAYS) {
         if is_weekday(day) {
-            set_session(calendar, day);
+            set_session(calendar, day, true);
         }
-        day += 1;
     }
 }
 
 // Whether a word that is not taken as a date has a year past the calendar.
 fn is_late(word: &[u8]) -> bool {
-    if word.len() != 10 {
-        return false;
-    }
-    let Parsed::Number(year) = text::read_number(text::part(word, 0, 4)) else {
-        return false;
-    };
-    END_YEAR <= year
+    word.len() == 10 && text::read_number(&word[..4]).is_some_and(|year| END_YEAR <= year)
 }
 
-// Why a word that is no day of the calendar is refused.
-fn no_day(word: &[u8]) -> Entry {
-    if is_late(word) {
-        Entry::Bad(Reason::Late)
-    } else {
-        Entry::Bad(Reason::NotDate)
+// The day of a date, if the calendar has it.
+fn day_of(date: &[u8]) -> Result<u32, Reason> {
+    match text::read_day(date) {
+        Some(day) if day < u32::from(DAYS) => Ok(day),
+        None if !is_late(date) => Err(Reason::NotDate),
+        _ => Err(Reason::Late),
     }
 }
 
-// Takes a weekday without session.
-fn take_weekday(word: &[u8], calendar: &mut [u8]) -> Entry {
-    let Parsed::Number(day) = text::read_day(word) else {
-        return no_day(word);
+// Takes a weekday without session, or behind a + an extra session.
+fn take_word(word: &[u8], calendar: &mut [u8]) -> Result<(), Reason> {
+    let (date, is_extra) = match word.strip_prefix(b"+") {
+        Some(date) => (date, true),
+        None => (word, false),
     };
-    if DAYS as u32 <= day {
-        return Entry::Bad(Reason::Late);
+    let day = day_of(date)?;
+    match (is_weekday(day), is_extra) {
+        (false, false) => return Err(Reason::Weekend),
+        (true, true) => return Err(Reason::Weekday),
+        _ => set_session(calendar, day, is_extra),
     }
-    if !is_weekday(day) {
-        return Entry::Bad(Reason::Weekend);
-    }
-    unset_session(calendar, day);
-    Entry::Taken
-}
-
-// Takes an extra session.
-fn take_extra(word: &[u8], calendar: &mut [u8]) -> Entry {
-    let Parsed::Number(day) = text::read_day(word) else {
-        return no_day(word);
-    };
-    if DAYS as u32 <= day {
-        return Entry::Bad(Reason::Late);
-    }
-    if is_weekday(day) {
-        return Entry::Bad(Reason::Weekday);
-    }
-    set_session(calendar, day);
-    Entry::Taken
+    Ok(())
 }
 
 // Takes a line: a date, or nothing, and perhaps a comment.
-fn take(line: &[u8], calendar: &mut [u8]) -> Entry {
-    let content = lines::content(line);
-    let word = lines::word(content);
-    if word.len() == 0 {
-        return Entry::Taken;
-    }
-    let more = lines::word(lines::behind(content));
-    if 0 < more.len() {
-        return Entry::Bad(Reason::NotDate);
-    }
-    if word[0] == b'+' {
-        take_extra(text::part(word, 1, word.len()), calendar)
-    } else {
-        take_weekday(word, calendar)
+fn take(line: &[u8], calendar: &mut [u8]) -> Result<(), Reason> {
+    let mut words = Words::of(lines::content(line));
+    match (words.next(), words.next()) {
+        (None, _) => Ok(()),
+        (Some(word), None) => take_word(word, calendar),
+        (Some(_), Some(_)) => Err(Reason::NotDate),
     }
 }
 
-// Takes the lines one after the other; the last may have no line feed.
-fn take_lines(list: &[u8], calendar: &mut [u8]) -> Made {
-    let mut line: u32 = 1;
-    let mut start: usize = 0;
-    let mut i: usize = 0;
-    while i < list.len() {
-        if list[i] == b'\n' {
-            let entry = take(text::part(list, start, i), calendar);
-            if let Entry::Bad(reason) = entry {
-                return Made::Refused(line, reason);
-            }
-            start = i + 1;
-            line = lines::next(line);
-        }
-        i += 1;
-    }
-    let entry = take(text::part(list, start, list.len()), calendar);
-    if let Entry::Bad(reason) = entry {
-        return Made::Refused(line, reason);
-    }
-    Made::Done
-}
-
-// Fills a calendar from a list. An entry point: it takes any bytes.
-pub fn make(list: &[u8], calendar: &mut [u8]) -> Made {
+// Fills a calendar from a list, the last line of which may have no line feed. An entry point: it takes any bytes.
+pub fn make<'a>(list: &'a [u8], calendar: &mut [u8]) -> Result<(), Fault<'a>> {
     if calendar.len() != CALENDAR_LENGTH {
-        return Made::WrongLength;
+        return Err(Fault::WrongLength);
     }
     set_weekdays(calendar);
-    take_lines(list, calendar)
-}
-
-fn words(out: &mut [u8], at: usize, reason: Reason) -> usize {
-    match reason {
-        Reason::NotDate => text::put(
-            out,
-            at,
-            b"not a date from 2000-01-01 on: write 2026-12-25, or +2026-01-10 for an extra session",
-        ),
-        Reason::Late => text::put(out, at, b"past 2099-12-31, the calendar's last day"),
-        Reason::Weekend => text::put(
-            out,
-            at,
-            b"a Saturday or Sunday has no session anyway; write + before an extra session",
-        ),
-        Reason::Weekday => text::put(
-            out,
-            at,
-            b"a weekday has a session anyway; + is for a Saturday or Sunday",
-        ),
+    for (number, line) in (1u32..).zip(list.split(|&byte| byte == b'\n')) {
+        if let Err(reason) = take(line, calendar) {
+            return Err(Fault::Line(Refused {
+                number,
+                line,
+                reason,
+            }));
+        }
     }
-}
-
-// Writes a line that was refused, and on the next line why.
-pub fn complaint(out: &mut [u8], at: usize, list: &[u8], line: u32, reason: Reason) -> usize {
-    let at = lines::show(out, at, list, line);
-    let at = text::put(out, at, b"  ");
-    words(out, at, reason)
+    Ok(())
 }

@@ -5,109 +5,109 @@ mod case;
 mod months;
 mod next;
 
+use base::Tier;
 use case::Case;
-use phrases::fill;
-use reading::Row;
+use dates::MONTHS;
+use months::NotLive;
+use next::Prospects;
+use phrases::{Origin, SeriesName};
+use reading::{Register, Row};
+use std::fmt;
+use std::fmt::Display;
+use text::{Date, Month};
+use wording::{Bands, Neighbours};
 
 // The answer for a month and a price: one line, and under it indented ones that tell more.
-pub fn why(
-    out: &mut [u8],
-    at: usize,
-    calendar: &[u8],
-    register: &[u8],
-    month: u32,
-    price: u32,
-) -> usize {
-    let tiers = case::tiers_with(price);
-    let at = series(out, at, month, price, tiers);
-    let at = verdict(out, at, calendar, register, month, price, tiers);
-    text::put(out, at, b"\n")
+#[derive(Clone, Copy)]
+pub struct Why<'a> {
+    pub register: Register<'a>,
+    pub month: u32,
+    pub price: u32,
+}
+
+impl Display for Why<'_> {
+    fn fmt<W: fmt::Write>(&self, f: &mut fmt::Formatter<W>) -> fmt::Result {
+        let Why {
+            register,
+            month,
+            price,
+        } = *self;
+        series(f, month, price)?;
+        match Case::of(register, month, price) {
+            None => write!(f, "{}", NotLive { register, month })?,
+            Some(case) => verdict(f, case)?,
+        }
+        f.write_str("\n")
+    }
 }
 
 // The names of call and put, or month and price where these have no name.
-fn series(out: &mut [u8], at: usize, month: u32, price: u32, tiers: u32) -> usize {
-    if tiers == 0 || dates::MONTHS as u32 <= month {
-        return fill(out, at, b"%m at %n: ", [month, price, 0, 0, 0, 0]);
+fn series<W: fmt::Write>(f: &mut fmt::Formatter<W>, month: u32, price: u32) -> fmt::Result {
+    if month < u32::from(MONTHS) && grid::on_grid(Tier::N, price) {
+        let call = SeriesName::call(month, price);
+        let put = SeriesName::put(month, price);
+        write!(f, "{call} and {put}: ")
+    } else {
+        write!(f, "{} at {price}: ", Month(month))
     }
-    let series = phrases::series(month, price);
-    fill(out, at, b"%C and %P: ", [series, series, 0, 0, 0, 0])
 }
 
-// The place of a price among a month's rows; their number where it is not there.
-fn place_of(rows: &[u8], end: u32, price: u32) -> u32 {
-    let mut i: u32 = 0;
-    while i < end {
-        let row = reading::row_at(rows, i);
-        if row.price == price {
-            return i;
+// Whether a price of a live month is listed, and what follows.
+fn verdict<W: fmt::Write>(f: &mut fmt::Formatter<W>, case: Case<'_>) -> fmt::Result {
+    let mut rows = case.register.rows_of(case.month);
+    match rows.find(|row| row.price == case.price) {
+        Some(row) => listed(f, case, row),
+        None => {
+            not_listed(f, case)?;
+            write!(f, "{}", Prospects(case))
         }
-        i += 1;
     }
-    end
 }
 
-// Whether it is listed, and what follows.
-fn verdict(
-    out: &mut [u8],
-    at: usize,
-    calendar: &[u8],
-    register: &[u8],
-    month: u32,
-    price: u32,
-    tiers: u32,
-) -> usize {
-    let rows = reading::rows_of(register, month);
-    let end = reading::count(rows);
-    if end == 0 {
-        return months::not_live(out, at, calendar, register, month);
-    }
-    let case = case::case_of(calendar, register, rows, month, price, tiers);
-    let place = place_of(rows, end, price);
-    if place < end {
-        return listed(out, at, case, reading::row_at(rows, place));
-    }
-    let at = not_listed(out, at, case);
-    next::prospects(out, at, calendar, register, case)
-}
-
-fn listed(out: &mut [u8], at: usize, case: Case, row: Row) -> usize {
-    let at = fill(
-        out,
-        at,
-        b"listed since %d: %o\n  ",
-        [row.first, row.origin, 0, 0, 0, 0],
-    );
-    fill(
-        out,
-        at,
-        b"%m: tier %t, expires %d, span %n to %n",
-        [case.month, case.tier, case.expiry, case.low, case.high, 0],
+fn listed<W: fmt::Write>(f: &mut fmt::Formatter<W>, case: Case<'_>, row: Row) -> fmt::Result {
+    write!(
+        f,
+        "listed since {}: {}\n  {}, span {}",
+        Date(row.first),
+        Origin(row.origin),
+        Live(case),
+        case.span,
     )
 }
 
 // A price on the month's grid is outside its span, any other not on that grid.
-fn not_listed(out: &mut [u8], at: usize, case: Case) -> usize {
-    if case.tier < case.tiers {
-        return fill(
-            out,
-            at,
-            b"not listed: outside the span %n to %n\n  %m: tier %t, expires %d",
-            [case.low, case.high, case.month, case.tier, case.expiry, 0],
-        );
+fn not_listed<W: fmt::Write>(f: &mut fmt::Formatter<W>, case: Case<'_>) -> fmt::Result {
+    let Case {
+        price,
+        tier,
+        span,
+        ..
+    } = case;
+    if grid::on_grid(tier, price) {
+        write!(f, "not listed: outside the span {span}\n  {}", Live(case))
+    } else {
+        write!(
+            f,
+            "not listed: not on the grid of tier {tier}\n  {}, span {span}\n  its grid: {}{}",
+            Live(case),
+            Bands(tier),
+            Neighbours { tier, price },
+        )
     }
-    let at = fill(
-        out,
-        at,
-        b"not listed: not on the grid of tier %t\n  %m: tier %t, expires %d, span %n to %n\n  its grid: ",
-        [
-            case.tier,
-            case.month,
-            case.tier,
-            case.expiry,
-            case.low,
-            case.high,
-        ],
-    );
-    let at = wording::bands(out, at, case.tier);
-    wording::neighbours(out, at, case.tier, case.price)
+}
+
+// How the month stands.
+#[derive(Clone, Copy)]
+struct Live<'a>(Case<'a>);
+
+impl Display for Live<'_> {
+    fn fmt<W: fmt::Write>(&self, f: &mut fmt::Formatter<W>) -> fmt::Result {
+        let Case {
+            month,
+            tier,
+            expiry,
+            ..
+        } = self.0;
+        write!(f, "{}: tier {tier}, expires {}", Month(month), Date(expiry))
+    }
 }

@@ -1,28 +1,185 @@
 // What the next session, or a later one, would have to bring for a price of a live month to be listed.
 use crate::case::Case;
 use crate::months;
+use base::Tier;
 use grid::{HIGHEST_CLOSE, LOWEST_CLOSE};
 use layout::MOST_WAITING;
-use lookup::OUTSIDE;
-use phrases::fill;
 use rules::LAST_FIRST_MONTH;
+use std::fmt;
+use std::fmt::Display;
+use std::ops::RangeInclusive;
+use text::{Date, Month, Points};
 
-// Whether a close requires prices up to the given one, or only prices above it.
-fn reaches(tier: u32, close: u32, price: u32, is_above: bool) -> bool {
-    let required = lookup::lookup_required(tier, close);
-    if is_above {
-        return price <= required.high as u32;
+// What comes after the register's day, each line behind another one.
+#[derive(Clone, Copy)]
+pub struct Prospects<'a>(pub Case<'a>);
+
+impl Display for Prospects<'_> {
+    fn fmt<W: fmt::Write>(&self, f: &mut fmt::Formatter<W>) -> fmt::Result {
+        let case = self.0;
+        if case.expiry <= case.register.day() {
+            return f.write_str(
+                "\n  it expires on the register's day: no later session can list it",
+            );
+        }
+        let Some(next) = next_session(case) else {
+            return f.write_str("\n  the register takes no further session (cause 20)");
+        };
+        if !grid::on_grid(next.tier, case.price) {
+            return later(f, case);
+        }
+        if next.tier != case.tier {
+            next_tier(f, case, next)?;
+        }
+        if case.is_within() {
+            Ok(())
+        } else {
+            reached(f, case, next)
+        }
     }
-    price < required.low as u32
 }
 
-// The least close that reaches so far; the one behind the highest where none does.
-fn reaching_close(tier: u32, price: u32, is_above: bool) -> u32 {
+// A session day, and the tier that the month has from it on.
+#[derive(Clone, Copy)]
+struct Session {
+    day: u32,
+    tier: Tier,
+}
+
+impl Display for Session {
+    fn fmt<W: fmt::Write>(&self, f: &mut fmt::Formatter<W>) -> fmt::Result {
+        write!(f, "\n  from {} in tier {}", Date(self.day), self.tier)
+    }
+}
+
+// The session after the register's day, where the register takes one.
+fn next_session(case: Case<'_>) -> Option<Session> {
+    let day = case.register.next_session()?;
+    let first = lookup::first_live(case.register.calendar, day)?;
+    if u32::from(LAST_FIRST_MONTH) < first {
+        return None;
+    }
+    let tier = lookup::tier_of(first, case.month)?;
+    Some(Session { day, tier })
+}
+
+// The next session brings another tier.
+fn next_tier<W: fmt::Write>(
+    f: &mut fmt::Formatter<W>,
+    case: Case<'_>,
+    next: Session,
+) -> fmt::Result {
+    if grid::on_grid(case.tier, case.price) {
+        write!(f, "{next}")
+    } else {
+        finer(f, case, next)
+    }
+}
+
+// What a finer tier that has the price on its grid does for it, from a day on.
+fn finer<W: fmt::Write>(
+    f: &mut fmt::Formatter<W>,
+    case: Case<'_>,
+    session: Session,
+) -> fmt::Result {
+    let follows = if case.is_within() {
+        ": listed then"
+    } else {
+        "; outside the span so far"
+    };
+    write!(f, "{session}, on whose grid it is{follows}")
+}
+
+// A price that is not on the month's grid of the next session: the coarsest tier that has it comes first. The month is
+// in tier N when it is the first live one, and in tier M from two months before on.
+fn later<W: fmt::Write>(f: &mut fmt::Formatter<W>, case: Case<'_>) -> fmt::Result {
+    let Some(coarsest) = case.coarsest() else {
+        return f.write_str("\n  no tier has it on its grid: it is never listed");
+    };
+    let (first, tier) = match (coarsest, case.month.checked_sub(2)) {
+        (Tier::M, Some(first)) => (first, Tier::M),
+        _ => (case.month, Tier::N),
+    };
+    match months::first_session(case.register.calendar, first) {
+        None => f.write_str(
+            "\n  no finer tier is reached: a register ends with March 2099 (cause 20)",
+        ),
+        Some(day) => finer(f, case, Session { day, tier }),
+    }
+}
+
+// On which side of the span a price lies.
+#[derive(Clone, Copy)]
+enum Side {
+    Above,
+    Below,
+}
+
+// A price of the case's month among some that waits as an announcement.
+fn waiting_within(case: Case<'_>, prices: RangeInclusive<u32>) -> Option<u32> {
+    let mut waiting = case
+        .register
+        .announcements()
+        .filter(|waits| waits.month == case.month);
+    let found = waiting.find(|waits| prices.contains(&waits.price))?;
+    Some(found.price)
+}
+
+// A price outside the span on the month's grid of the next session, where the month has that tier. Of what may refuse
+// an announcement only the lack of room is left.
+fn reached<W: fmt::Write>(f: &mut fmt::Formatter<W>, case: Case<'_>, next: Session) -> fmt::Result {
+    let price = case.price;
+    let day = Date(next.day);
+    if waiting_within(case, price..=price).is_some() {
+        return write!(
+            f,
+            "\n  {price} waits as an announcement: the session of {day} lists it",
+        );
+    }
+    let (side, beyond) = if case.span.high < price {
+        (Side::Above, price..=u32::MAX)
+    } else {
+        (Side::Below, 0..=price)
+    };
+    if let Some(waiting) = waiting_within(case, beyond) {
+        return write!(
+            f,
+            "\n  {waiting} waits as an announcement: the session of {day} lists all prices up to there",
+        );
+    }
+    match close_to_bring(next.tier, price, side) {
+        None => f.write_str("\n  no close brings it in")?,
+        Some(close) => {
+            let reach = match side {
+                Side::Above => "more",
+                Side::Below => "less",
+            };
+            write!(
+                f,
+                "\n  a close of {} or {reach} before {day} brings it in",
+                Points(close)
+            )?
+        }
+    }
+    announcement(f, case)
+}
+
+// Whether a close requires prices up to the given one, or only prices above it.
+fn reaches(tier: Tier, close: u32, price: u32, side: Side) -> bool {
+    lookup::required(tier, close).is_some_and(|required| match side {
+        Side::Above => price <= u32::from(required.high),
+        Side::Below => price < u32::from(required.low),
+    })
+}
+
+// Where the closes part: those below it do not reach so far, those from it on do.
+// Kept: std searches by halves in slices alone, and there are 946,000 closes.
+fn reaching_close(tier: Tier, price: u32, side: Side) -> u32 {
     let mut low = LOWEST_CLOSE;
     let mut high = HIGHEST_CLOSE + 1;
     while low < high {
         let close = low + (high - low) / 2;
-        if reaches(tier, close, price, is_above) {
+        if reaches(tier, close, price, side) {
             high = close;
         } else {
             low = close + 1;
@@ -31,175 +188,35 @@ fn reaching_close(tier: u32, price: u32, is_above: bool) -> u32 {
     low
 }
 
-// Which closes before a session bring a price in that lies above the span, or below it.
-fn closes(out: &mut [u8], at: usize, tier: u32, price: u32, is_above: bool, day: u32) -> usize {
-    let close = reaching_close(tier, price, is_above);
-    if is_above {
-        if close <= HIGHEST_CLOSE {
-            return fill(
-                out,
-                at,
-                b"\n  a close of %c or more before %d brings it in",
-                [close, day, 0, 0, 0, 0],
-            );
-        }
+// The close nearest to the others that brings a price in, above the span the lowest, below it the highest.
+fn close_to_bring(tier: Tier, price: u32, side: Side) -> Option<u32> {
+    let close = reaching_close(tier, price, side);
+    let close = match side {
+        Side::Above => close,
+        Side::Below => close.checked_sub(1)?,
+    };
+    (LOWEST_CLOSE..=HIGHEST_CLOSE)
+        .contains(&close)
+        .then_some(close)
+}
+
+fn announcement<W: fmt::Write>(f: &mut fmt::Formatter<W>, case: Case<'_>) -> fmt::Result {
+    let Case {
+        register,
+        month,
+        price,
+        ..
+    } = case;
+    if MOST_WAITING <= register.announcements().count() {
+        write!(
+            f,
+            "\n  an announcement is refused by cause 25: {MOST_WAITING} wait already"
+        )
     } else {
-        if LOWEST_CLOSE < close {
-            return fill(
-                out,
-                at,
-                b"\n  a close of %c or less before %d brings it in",
-                [close - 1, day, 0, 0, 0, 0],
-            );
-        }
+        write!(
+            f,
+            "\n  an announcement brings it in: sindhopul announce CALENDAR REGISTER {} {price}",
+            Month(month),
+        )
     }
-    text::put(out, at, b"\n  no close brings it in")
-}
-
-// A price of a month from `low` to `high` that waits as an announcement; 0 where none does.
-fn waiting_within(register: &[u8], month: u32, low: u32, high: u32) -> u32 {
-    let end = reading::waiting(register);
-    let mut i: u32 = 0;
-    while i < end {
-        let announced = reading::announcement_at(register, i);
-        if announced.month == month {
-            if low <= announced.price && announced.price <= high {
-                return announced.price;
-            }
-        }
-        i += 1;
-    }
-    0
-}
-
-// A price outside the span on the month's grid of the next session, where the month has that tier. Of what may refuse
-// an announcement only the lack of room is left.
-fn reached(out: &mut [u8], at: usize, register: &[u8], case: Case, tier: u32, day: u32) -> usize {
-    let is_above = case.high < case.price;
-    if waiting_within(register, case.month, case.price, case.price) != 0 {
-        return fill(
-            out,
-            at,
-            b"\n  %n waits as an announcement: the session of %d lists it",
-            [case.price, day, 0, 0, 0, 0],
-        );
-    }
-    let low = if is_above { case.price } else { 0 };
-    let high = if is_above { OUTSIDE } else { case.price };
-    let waiting = waiting_within(register, case.month, low, high);
-    if waiting != 0 {
-        return fill(
-            out,
-            at,
-            b"\n  %n waits as an announcement: the session of %d lists all prices up to there",
-            [waiting, day, 0, 0, 0, 0],
-        );
-    }
-    let at = closes(out, at, tier, case.price, is_above, day);
-    announcement(out, at, register, case)
-}
-
-fn announcement(out: &mut [u8], at: usize, register: &[u8], case: Case) -> usize {
-    let most = MOST_WAITING as u32;
-    if most <= reading::waiting(register) {
-        return fill(
-            out,
-            at,
-            b"\n  an announcement is refused by cause 25: %n wait already",
-            [most, 0, 0, 0, 0, 0],
-        );
-    }
-    fill(
-        out,
-        at,
-        b"\n  an announcement brings it in: sindhopul announce CALENDAR REGISTER %m %n",
-        [case.month, case.price, 0, 0, 0, 0],
-    )
-}
-
-// What a finer tier that has the price on its grid does for it, from a day on.
-fn finer(out: &mut [u8], at: usize, case: Case, tier: u32, day: u32) -> usize {
-    if case.is_within {
-        return fill(
-            out,
-            at,
-            b"\n  from %d in tier %t, on whose grid it is: listed then",
-            [day, tier, 0, 0, 0, 0],
-        );
-    }
-    fill(
-        out,
-        at,
-        b"\n  from %d in tier %t, on whose grid it is; outside the span so far",
-        [day, tier, 0, 0, 0, 0],
-    )
-}
-
-// Says so where the next session brings another tier.
-fn next_tier(out: &mut [u8], at: usize, case: Case, tier: u32, day: u32) -> usize {
-    if case.tier == tier {
-        return at;
-    }
-    if case.tiers <= case.tier {
-        return finer(out, at, case, tier, day);
-    }
-    fill(out, at, b"\n  from %d in tier %t", [day, tier, 0, 0, 0, 0])
-}
-
-// A price that is not on the month's grid of the next session: the coarsest tier that has it comes first. The month is
-// in tier N when it is the first live one, and in tier M from two months before on.
-fn later(out: &mut [u8], at: usize, calendar: &[u8], case: Case) -> usize {
-    if case.tiers == 0 {
-        return text::put(
-            out,
-            at,
-            b"\n  no tier has it on its grid: it is never listed",
-        );
-    }
-    let mut first = case.month;
-    let mut tier: u32 = 0;
-    if case.tiers == 2 {
-        if 2 <= first {
-            first -= 2;
-            tier = 1;
-        }
-    }
-    let day = months::first_session(calendar, first);
-    if day == OUTSIDE {
-        return text::put(
-            out,
-            at,
-            b"\n  no finer tier is reached: a register ends with March 2099 (cause 20)",
-        );
-    }
-    finer(out, at, case, tier, day)
-}
-
-// What comes after the register's day.
-pub fn prospects(out: &mut [u8], at: usize, calendar: &[u8], register: &[u8], case: Case) -> usize {
-    if case.expiry <= case.day {
-        return text::put(
-            out,
-            at,
-            b"\n  it expires on the register's day: no later session can list it",
-        );
-    }
-    let day = lookup::lookup_next_session(calendar, case.day);
-    let first = lookup::lookup_first_live(calendar, day);
-    if (LAST_FIRST_MONTH as u32) < first {
-        return text::put(
-            out,
-            at,
-            b"\n  the register takes no further session (cause 20)",
-        );
-    }
-    let tier = lookup::lookup_tier_of(first, case.month);
-    if case.tiers <= tier {
-        return later(out, at, calendar, case);
-    }
-    let at = next_tier(out, at, case, tier, day);
-    if case.is_within {
-        return at;
-    }
-    reached(out, at, register, case, tier, day)
 }

@@ -1,9 +1,14 @@
-// Reading a journal into lists of calls.
-use calls::{ANNOUNCE, KINDS, SESSION, START};
-use text::Parsed;
+// Reading a journal into a list of calls.
+ghost use Rattle.std.specs.Prelude.{◌≤◌, IfOk, length};
+
+use calls::Call;
+use lines::{Numbered, Words};
+use std::error::Error;
+use std::fmt;
+use std::fmt::Display;
 
 // Why a line is refused.
-#[derive(Drop)]
+#[derive(Clone, Copy, PartialEq, Eq, Debug)]
 pub enum Reason {
     // Neither start nor session nor announce.
     NotCall,
@@ -13,206 +18,118 @@ pub enum Reason {
     Price,
     // Something else than `=` and a number behind the call.
     Number,
-    // More calls than the lists hold.
+    // More calls than the list holds.
     Full,
 }
 
-// How much of the lists is taken.
-#[derive(Drop)]
-pub struct Extent {
-    pub calls: usize,
-    pub pairs: usize,
-}
-
-// A journal that was read.
-#[derive(Drop)]
-pub enum Calls {
-    // How many calls and pairs. A last line without line feed is left out.
-    Taken(Extent),
-    // The first line that cannot be taken, and why.
-    Refused(u32, Reason),
-}
-
-#[derive(Drop)]
-pub enum Line {
-    Nothing,
-    // A call of one pair: its kind and the pair.
-    Call(u8, u32, u32),
-    Bad(Reason),
-}
-
-// How much is taken after a line.
-#[derive(Drop)]
-enum Step {
-    To(Extent),
-    Bad(Reason),
-}
-
-pub fn kind_of(word: &[u8]) -> u8 {
-    if text::same(word, b"start") {
-        return START;
-    }
-    if text::same(word, b"session") {
-        return SESSION;
-    }
-    if text::same(word, b"announce") {
-        return ANNOUNCE;
-    }
-    KINDS
-}
-
-// Whether behind the arguments stands nothing, or `=` and perhaps a number. The words behind the number are not read here.
-fn is_told(line: &[u8]) -> bool {
-    let sign = lines::word(line);
-    if sign.len() == 0 {
-        return true;
-    }
-    if !text::same(sign, b"=") {
-        return false;
-    }
-    let number = lines::word(lines::behind(line));
-    if number.len() == 0 {
-        return true;
-    }
-    let Parsed::Number(_told) = text::read_number(number) else {
-        return false;
-    };
-    true
-}
-
-// A call whose arguments are read, with what stands behind them.
-fn with_told(kind: u8, x: u32, y: u32, line: &[u8]) -> Line {
-    if is_told(line) {
-        Line::Call(kind, x, y)
-    } else {
-        Line::Bad(Reason::Number)
+impl Display for Reason {
+    fn fmt<W: fmt::Write>(&self, f: &mut fmt::Formatter<W>) -> fmt::Result {
+        f.write_str(match self {
+            Reason::NotCall => "not a call: start, session or announce",
+            Reason::Day => "the day: write 2026-11-16, or its number",
+            Reason::Close => "the close: write 2413.37, or in hundredths",
+            Reason::Month => "the month: write 2026-12, or its number",
+            Reason::Price => "the price: write whole points",
+            Reason::Number => "behind the call: write nothing, or = and a number",
+            Reason::Full => "one call more than fits",
+        })
     }
 }
 
-// The arguments of an announcement.
-fn month_and_price(line: &[u8]) -> Line {
-    let Parsed::Number(month) = text::read_month(lines::word(line)) else {
-        return Line::Bad(Reason::Month);
-    };
-    let second = lines::behind(line);
-    let Parsed::Number(price) = text::read_number(lines::word(second)) else {
-        return Line::Bad(Reason::Price);
-    };
-    with_told(ANNOUNCE, month, price, lines::behind(second))
+impl Error for Reason {}
+
+pub type Refused<'a> = lines::Refused<'a, Reason>;
+
+// Whether a call has this name.
+pub fn is_name(word: &[u8]) -> bool {
+    matches!(word, b"start" | b"session" | b"announce")
 }
 
 // The arguments of a start or a session.
-fn day_and_close(kind: u8, line: &[u8]) -> Line {
-    let Parsed::Number(day) = text::read_day(lines::word(line)) else {
-        return Line::Bad(Reason::Day);
-    };
-    let second = lines::behind(line);
-    let Parsed::Number(close) = text::read_close(lines::word(second)) else {
-        return Line::Bad(Reason::Close);
-    };
-    with_told(kind, day, close, lines::behind(second))
+fn day_and_close(words: &mut Words<'_>) -> Result<(u32, u32), Reason> {
+    let day = words.next().and_then(text::read_day).ok_or(Reason::Day)?;
+    let close = words.next().and_then(text::read_close);
+    Ok((day, close.ok_or(Reason::Close)?))
 }
 
-// The call of a line without its line feed.
-pub fn call_in(line: &[u8]) -> Line {
-    let content = lines::content(line);
-    let name = lines::word(content);
-    if name.len() == 0 {
-        return Line::Nothing;
-    }
-    let kind = kind_of(name);
-    let arguments = lines::behind(content);
-    if kind == KINDS {
-        return Line::Bad(Reason::NotCall);
-    }
-    if kind == ANNOUNCE {
-        return month_and_price(arguments);
-    }
-    day_and_close(kind, arguments)
+// The arguments of an announcement.
+fn month_and_price(words: &mut Words<'_>) -> Result<(u32, u32), Reason> {
+    let month = words.next().and_then(text::read_month);
+    let month = month.ok_or(Reason::Month)?;
+    let price = words.next().and_then(text::read_number);
+    Ok((month, price.ok_or(Reason::Price)?))
 }
 
-// Takes a line's call behind those that are taken.
-fn take(
-    line: &[u8],
-    kinds: &mut [u8],
-    counts: &mut [u8],
-    pool: &mut [[u32; 2]],
-    taken: Extent,
-) -> Step {
-    let parsed = call_in(line);
-    match parsed {
-        Line::Nothing => Step::To(taken),
-        Line::Bad(reason) => Step::Bad(reason),
-        Line::Call(kind, x, y) => {
-            let n = taken.calls;
-            let at = taken.pairs;
-            if kinds.len() <= n {
-                return Step::Bad(Reason::Full);
-            }
-            if counts.len() <= n {
-                return Step::Bad(Reason::Full);
-            }
-            if pool.len() <= at {
-                return Step::Bad(Reason::Full);
-            }
-            kinds[n] = kind;
-            counts[n] = 1;
-            pool[at] = [x, y];
-            Step::To(Extent {
-                calls: n + 1,
-                pairs: at + 1,
-            })
+// Whether behind the arguments stands nothing, or `=` and perhaps a number. The words behind the number are not read here.
+fn is_told(words: &mut Words<'_>) -> bool {
+    match words.next() {
+        None => true,
+        Some(b"=") => match words.next() {
+            None => true,
+            Some(number) => text::read_number(number).is_some(),
+        },
+        Some(_) => false,
+    }
+}
+
+// The call of a line without its line feed; none where it says nothing.
+pub fn call_in(line: &[u8]) -> Result<Option<Call>, Reason> {
+    let mut words = Words::of(lines::content(line));
+    let call = match words.next() {
+        None => return Ok(None),
+        Some(b"start") => {
+            let (day, close) = day_and_close(&mut words)?;
+            Call::Start(day, close)
         }
-    }
-}
-
-// Reads a journal. The kind of a call goes into `kinds`, how many pairs it has into `counts`, and the pairs of all calls one
-// behind the other into `pool`. An entry point: it takes any bytes.
-pub fn read(text: &[u8], kinds: &mut [u8], counts: &mut [u8], pool: &mut [[u32; 2]]) -> Calls {
-    let mut taken = Extent { calls: 0, pairs: 0 };
-    let mut line: u32 = 1;
-    let mut start: usize = 0;
-    let mut i: usize = 0;
-    while i < text.len() {
-        if text[i] == b'\n' {
-            let step = take(text::part(text, start, i), kinds, counts, pool, taken);
-            match step {
-                Step::Bad(reason) => return Calls::Refused(line, reason),
-                Step::To(to) => taken = to,
-            }
-            start = i + 1;
-            line = lines::next(line);
+        Some(b"session") => {
+            let (day, close) = day_and_close(&mut words)?;
+            Call::Session(day, close)
         }
-        i += 1;
-    }
-    Calls::Taken(taken)
-}
-
-fn reason_form(reason: Reason) -> u32 {
-    match reason {
-        Reason::NotCall => 1,
-        Reason::Day => 2,
-        Reason::Close => 3,
-        Reason::Month => 4,
-        Reason::Price => 5,
-        Reason::Number => 6,
-        Reason::Full => 7,
+        Some(b"announce") => {
+            let (month, price) = month_and_price(&mut words)?;
+            Call::Announce(month, price)
+        }
+        Some(_) => return Err(Reason::NotCall),
+    };
+    if is_told(&mut words) {
+        Ok(Some(call))
+    } else {
+        Err(Reason::Number)
     }
 }
 
-// Writes a line that was refused, and on the next line why.
-pub fn complaint(out: &mut [u8], at: usize, text: &[u8], line: u32, reason: Reason) -> usize {
-    let words = lines::line(
-        b"not a call: start, session or announce
-the day: write 2026-11-16, or its number
-the close: write 2413.37, or in hundredths
-the month: write 2026-12, or its number
-the price: write whole points
-behind the call: write nothing, or = and a number
-one call more than fits",
-        reason_form(reason),
-    );
-    let at = lines::show(out, at, text, line);
-    let at = text::put(out, at, b"  ");
-    text::put(out, at, words)
+// Takes a line's call behind the `count` that are taken, and answers how many there are then.
+fn take(line: &[u8], calls: &mut [Call], count: usize) -> Result<usize, Reason>
+    requires { count ≤ length calls.old }
+    ensures { IfOk result (λ n. n ≤ length calls.new) }
+{
+    let Some(call) = call_in(line)? else {
+        return Ok(count);
+    };
+    let Some(place) = calls.get_mut(count) else {
+        return Err(Reason::Full);
+    };
+    *place = call;
+    Ok(count + 1)
+}
+
+// Reads the lines of a journal that end in a line feed, and answers how many calls they have. An entry point: it takes any
+// bytes.
+pub fn read<'a>(text: &'a [u8], calls: &mut [Call]) -> Result<usize, Refused<'a>>
+    ensures { IfOk result (λ n. n ≤ length calls.new) }
+{
+    let mut count = 0;
+    for (number, line) in Numbered::of(text) {
+        count = match take(line, calls, count) {
+            Ok(count) => count,
+            Err(reason) => {
+                return Err(Refused {
+                    number,
+                    line,
+                    reason,
+                });
+            }
+        };
+    }
+    Ok(count)
 }

@@ -5,7 +5,7 @@
 //     announce 2026-12 3100 = 0 waiting 1
 //     session 2026-11-19 2420.10 = 19
 //
-// A call, its pairs of arguments, `=`, the number that it gave, and the values beside it. Each call has one pair.
+// A call with its two arguments, `=`, the number that it gave, and the values beside it.
 #![tactic(auto)]
 
 mod ending;
@@ -13,7 +13,7 @@ mod input;
 mod output;
 mod telling;
 
-pub use ending::{end_line, is_cut, is_name, is_text, whole};
-pub use input::{Calls, Extent, Line, Reason, call_in, complaint, read};
-pub use output::entry;
+pub use ending::{ended, is_cut, is_text, whole};
+pub use input::{Reason, Refused, call_in, is_name, read};
+pub use output::{Answered, Entry};
 pub use telling::{agrees, answer_in, number_told};

@@ -6,13 +6,13 @@ use Prim.Native.Nat.{ℕ, zero, suc, ◌+◌, ◌-◌, ◌*◌, ◌≤◌, ◌<�
 use native.Mathlib.Numerals.{add-one}
 use native.Mathlib.Omega.{arith}
 use lib.ListN.{length, take, drop, replicate, length-append, length-drop, take-append-drop}
-use lib.Seq.{take_at, drop_at, drop-drop, take_all, length-take-le}
+use lib.Seq.{take_at, drop_at, take_all, length-take-le}
 use borrow.Rule.Slice.PartMut.{put_mid}
 use Rattle.layout.specs.Rows.{Row}
 use Rattle.layout.specs.Bytes.{register_length, rows_bytes, padded, rows_from, rows_length}
 use Rattle.layout.proofs.ByteLaws.{rows-length, rows_append}
 use Rattle.ladders.specs.declared.Plan.{Plan}
-use Rattle.ladders.specs.Writing.{rows_in, prices_in, ladder_by, left_by, ladders_from, count_from, Ready}
+use Rattle.ladders.specs.Writing.{prices_in, ladder_by, left_by, ladders_from, count_from, Ready}
 use Rattle.base.proofs.Parts.{whole_part, put_rest, put_next, drop-next}
 use Rattle.ladders.proofs.Ladder.{ladder-count}
 
@@ -22,44 +22,40 @@ ladders-count plans i zero old = refl
 ladders-count plans i (suc n) old =
     rw (length-append, ladder-count (plans i) (prices_in (plans i)) old, ladders-count plans (suc i) n (left_by (plans i) (prices_in (plans i)) old))
 
-module _ (first : ℕ) (plans : ℕ → Plan) (start old : List ℕ) where
+module _ (first : ℕ) (plans : ℕ → Plan) (start : List ℕ) (old : List Row) where
   abbrev pub rows : List Row
-  rows = ladders_from plans 0 6 (rows_in old)
+  rows = ladders_from plans 0 6 old
 
   -- the register up to where the rows end
   abbrev pub up_to_end : List ℕ
   up_to_end = take rows_from start ++ rows_bytes rows
 
   -- what the loop keeps at a month: the ladders before it stand, and what follows is still to be written
-  pub record Inv (register : List ℕ) (at from i : ℕ) : Type 0 where
-    pub count : i ≤ 6
+  pub record Inv (register : List ℕ) (at : ℕ) (olds : List Row) (i : ℕ) : Type 0 where
     pub size : length register ≡ length start
     pub done : register ≡ take at up_to_end ++ drop at start
-    pub more : drop at up_to_end ≡ rows_bytes (ladders_from plans i (6 - i) (rows_in (drop from old)))
+    pub more : drop at up_to_end ≡ rows_bytes (ladders_from plans i (6 - i) olds)
     pub end : at + 8 * count_from plans i (6 - i) ≡ rows_from + 8 * count_from plans 0 6
-    pub from_in : from ≤ length old
 
   module _ (size : length start ≡ register_length) (ready : Ready first plans) where
     front : length (take rows_from start) ≡ rows_from
     front = length-take-le rows_from start (omega arith)
 
     bytes_count : length (rows_bytes rows) ≡ 8 * count_from plans 0 6
-    bytes_count = rows-length rows ∙ ap (λ (n : ℕ). 8 * n) (ladders-count plans 0 6 (rows_in old))
+    bytes_count = rows-length rows ∙ ap (λ (n : ℕ). 8 * n) (ladders-count plans 0 6 old)
 
     end-length : length up_to_end ≡ rows_from + 8 * count_from plans 0 6
     end-length = length-append (take rows_from start) (rows_bytes rows) ∙ rw (front, bytes_count)
 
-    pub begin : Inv start rows_from 0 0
+    pub begin : Inv start rows_from old 0
     begin = record {
-      count = omega arith;
       size = refl;
       done = sym (rw (take_at (take rows_from start) (rows_bytes rows) rows_from front) (take-append-drop rows_from start));
       more = drop_at (take rows_from start) (rows_bytes rows) rows_from front;
       end = refl;
-      from_in = omega arith;
     }
 
-    module _ (register : List ℕ) (at from i : ℕ) (inv : Inv register at from i) where
+    module _ (register : List ℕ) (at : ℕ) (olds : List Row) (i : ℕ) (inv : Inv register at olds i) where
       module _ (h : i < 6) where
         next : (o : List Row) → ladders_from plans i (6 - i) o ≡ ladder_by (plans i) (prices_in (plans i)) o ++ ladders_from plans (i + 1) (6 - (i + 1)) (left_by (plans i) (prices_in (plans i)) o)
         unfolding ladders_from
@@ -76,27 +72,23 @@ module _ (first : ℕ) (plans : ℕ → Plan) (start old : List ℕ) where
         pub room : at + 8 * length (prices_in (plans i)) ≤ register_length
         room = omega (arith, inv.end, next-count, ready.room)
 
-        pub turn : (last : List ℕ) (used : ℕ)
-            → used ≤ length (drop from old)
-            → rows_in (drop used (drop from old)) ≡ left_by (plans i) (prices_in (plans i)) (rows_in (drop from old))
-            → last ≡ rows_bytes (ladder_by (plans i) (prices_in (plans i)) (rows_in (drop from old))) ++ drop (8 * length (prices_in (plans i))) (take (length register - at) (drop at register))
+        pub turn : (last : List ℕ) (left : List Row)
+            → left ≡ left_by (plans i) (prices_in (plans i)) olds
+            → last ≡ rows_bytes (ladder_by (plans i) (prices_in (plans i)) olds) ++ drop (8 * length (prices_in (plans i))) (take (length register - at) (drop at register))
             → length (put_mid at (length register - at) register last) ≡ length start
-            → Inv (put_mid at (length register - at) register last) (at + 8 * length (prices_in (plans i))) (from + used) (i + 1)
-        turn last used u g w z =
+            → Inv (put_mid at (length register - at) register last) (at + 8 * length (prices_in (plans i))) left (i + 1)
+        turn last left g w z =
             let k : ℕ = 8 * length (prices_in (plans i)) in
-            let new : List ℕ = rows_bytes (ladder_by (plans i) (prices_in (plans i)) (rows_in (drop from old))) in
-            let rest : List ℕ = rows_bytes (ladders_from plans (i + 1) (6 - (i + 1)) (rows_in (drop (from + used) old))) in
-            let gone : left_by (plans i) (prices_in (plans i)) (rows_in (drop from old)) ≡ rows_in (drop (from + used) old) = sym g ∙ ap rows_in (drop-drop used from old) in
-            let todo : drop at up_to_end ≡ new ++ rest = inv.more ∙ rw (next (rows_in (drop from old)), gone) (rows_append _ _) in
-            let l : length new ≡ k = rows-length (ladder_by (plans i) (prices_in (plans i)) (rows_in (drop from old))) ∙ ap (λ (n : ℕ). 8 * n) (ladder-count (plans i) (prices_in (plans i)) (rows_in (drop from old))) in
+            let new : List ℕ = rows_bytes (ladder_by (plans i) (prices_in (plans i)) olds) in
+            let rest : List ℕ = rows_bytes (ladders_from plans (i + 1) (6 - (i + 1)) left) in
+            let todo : drop at up_to_end ≡ new ++ rest = inv.more ∙ rw (next olds, g) (rows_append _ _) in
+            let l : length new ≡ k = rows-length (ladder_by (plans i) (prices_in (plans i)) olds) ∙ ap (λ (n : ℕ). 8 * n) (ladder-count (plans i) (prices_in (plans i)) olds) in
             let a : at ≤ length up_to_end = omega (arith, inv.end, end-length) in
             record {
-              count = omega arith;
               size = z;
               done = put_next up_to_end start register at k a inv.done new rest todo l last w;
               more = drop-next up_to_end start register at k a inv.done new rest todo l;
               end = omega (arith, inv.end, next-count);
-              from_in = omega (arith, simp length-drop at u, inv.from_in);
             }
 
       module _ (h : 6 ≤ i) where
@@ -105,7 +97,7 @@ module _ (first : ℕ) (plans : ℕ → Plan) (start old : List ℕ) where
         at_end =
             let e : 6 - i ≡ 0 = omega arith in
             let c : at + 8 * count_from plans i 0 ≡ rows_from + 8 * count_from plans 0 6 = rw e at inv.end in
-            omega (arith, ladders-count plans 0 6 (rows_in old))
+            omega (arith, ladders-count plans 0 6 old)
 
         pub cleared : (last : List ℕ) → last ≡ replicate (length (take (length register - at) (drop at register))) 0
             → put_mid at (length register - at) register last ≡ take rows_from start ++ padded rows_length (rows_bytes rows)

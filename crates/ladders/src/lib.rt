@@ -1,15 +1,19 @@
 // The ladders of a start or a session, written row by row.
 #![tactic(auto)]
 
-ghost use Rattle.std.specs.Prelude.{◌≡◌, ◌++◌, ◌+◌, ◌*◌, ◌≤◌, ◌<◌, length, take, drop, get_or};
-ghost use Rattle.base.specs.Lists.{within};
-ghost use Rattle.dates.specs.Months.{month_count};
-ghost use Rattle.layout.specs.Bytes.{register_length, most_rows, rows_from, rows_bytes, padded};
-ghost use Rattle.ladders.specs.Writing.{rows_in, row_bytes, prices_in, added_origin, next_price, ladder_by, left_by, Ends, Alike, Spanned, ladders_from, strikes_at, plan_at, Ready};
+pub mod plans;
 
-use base::Tier;
+ghost use Rattle.std.specs.Prelude.{◌≡◌, ◌&&◌, ◌++◌, ◌+◌, ◌*◌, ◌≤◌, ◌<◌, eqb, map, length, take, drop, get_or};
+ghost use Rattle.base.specs.Lists.{within};
+ghost use Rattle.base.specs.Words.{at16};
+ghost use Rattle.layout.specs.Bytes.{register_length, most_rows, rows_from, row_of, rows_bytes, padded};
+ghost use Rattle.ladders.specs.Writing.{row_bytes, prices_in, added_origin, next_price, ladder_by, left_by, Ends, Alike, Spanned, ladders_from};
+ghost use Rattle.ladders.specs.Plans.{plan_of};
+
+use base::{Tier, put_word, word};
 use grid::Strikes;
-use layout::{FIRST_DAY, MONTH, ORIGIN, PRICE, ROW_LENGTH, SPARE};
+use layout::{FIRST_DAY, MONTH, ORIGIN, Origin, PRICE, ROW_LENGTH, ROWS, SPARE};
+pub use plans::Plans;
 
 // How one month's ladder is written.
 #[derive(Drop)]
@@ -18,11 +22,11 @@ pub struct Plan {
     pub tier: Tier,
     // The first day of a row that is added.
     pub day: u16,
-    // The origin of all rows of a month that held no span before: 1 at a session, 5 at a start.
-    pub origin: u8,
+    // The origin of all rows of a month that held no span before.
+    pub origin: Origin,
     pub span: Strikes,
-    // The span that the month held before, zeros where none, and that span as the close alone widens it.
-    pub held: Strikes,
+    // The span that the month held before, if it held one, and that span as the close alone widens it.
+    pub held: Option<Strikes>,
     pub wide: Strikes,
 }
 
@@ -34,234 +38,173 @@ pub struct Stretch {
     pub step: u64,
     pub first: u16,
     pub origin: u8,
-    // How many bytes it takes up of the old rows. An old row is a stretch by itself.
-    pub used: usize,
 }
 
-// How many bytes a ladder has, and how many it takes up of the old rows.
+// A stretch, and the old rows that are left behind its first row. An old row is a stretch by itself.
 #[derive(Drop)]
-pub struct Written {
+pub struct Found<'a> {
+    pub stretch: Stretch,
+    pub left: &'a [[u8; ROW_LENGTH]],
+}
+
+// How many bytes a ladder has, and the old rows that are left behind it.
+#[derive(Drop)]
+pub struct Written<'a> {
     pub size: usize,
-    pub used: usize,
+    pub left: &'a [[u8; ROW_LENGTH]],
 }
 
 #[tactic(auto, unfolding(base::specs::Lists::within))]
 fn covers(span: &Strikes, price: u16) -> bool
     ensures { result ≡ within span.now.low span.now.high price }
 {
-    if span.low <= price {
-        price <= span.high
-    } else {
-        false
-    }
-}
-
-// The origin of a row that is added.
-#[tactic(auto, unfolding(crate::specs::Writing::added_origin))]
-fn added_origin(plan: &Plan, price: u16) -> u8
-    ensures { result ≡ added_origin plan.now price }
-{
-    let held = &plan.held;
-    let wide = &plan.wide;
-    if held.low == 0 {
-        plan.origin
-    } else if covers(held, price) {
-        2
-    } else if covers(wide, price) {
-        3
-    } else {
-        4
-    }
-}
-
-// The price of the first of the old rows where that is of the plan's month; else 0.
-fn next_price(plan: &Plan, old: &[u8]) -> u16
-    ensures { result ≡ next_price plan.now (rows_in old.now) }
-{
-    if old.len() < ROW_LENGTH {
-        return 0;
-    }
-    if plan.month == base::word(old, 0) {
-        base::word(old, PRICE)
-    } else {
-        0
-    }
+    span.low <= price && price <= span.high
 }
 
 // An end, moved forward to an edge where one lies between it and a price.
 fn nearer(end: u64, edge: u64, price: u64) -> u64
     ensures { (result ≤ end) × (price < edge → result ≤ edge) }
 {
-    if price < edge {
-        if edge < end {
-            return edge;
+    if price < edge { end.min(edge) } else { end }
+}
+
+impl Plan {
+    // The origin of a row that is added.
+    #[tactic(auto, unfolding(crate::specs::Writing::added_origin))]
+    fn added_origin(&self, price: u16) -> Origin
+        ensures { result ≡ added_origin self.now price }
+    {
+        match &self.held {
+            None => self.origin,
+            Some(held) if covers(held, price) => Origin::Within,
+            Some(_) if covers(&self.wide, price) => Origin::Close,
+            Some(_) => Origin::Announced,
         }
     }
-    end
-}
 
-// Where added rows from a price on cease to be alike: at an end, at the next old row, and where a span begins or has ended.
-fn stretch_end(plan: &Plan, next: u16, end: u64, price: u64) -> u64
-    ensures { Ends plan.now next end price result }
-{
-    let held = &plan.held;
-    let wide = &plan.wide;
-    let end = nearer(end, next as u64, price);
-    let end = nearer(end, held.low as u64, price);
-    let end = nearer(end, held.high as u64 + 1, price);
-    let end = nearer(end, wide.low as u64, price);
-    nearer(end, wide.high as u64 + 1, price)
-}
+    // Whether an old row is that of the plan's month at a price.
+    fn has_row(&self, row: &[u8; ROW_LENGTH], price: u64) -> bool
+        ensures { result ≡ (eqb self.now.month (at16 row.now 0) && eqb price (at16 row.now 2)) }
+    {
+        self.month == word(row, MONTH) && price == u64::from(word(row, PRICE))
+    }
 
-// The rows from a price on: the first of the old rows where that is its row, else those that are added up to the next change.
-fn stretch_from(plan: &Plan, old: &[u8], price: u64) -> Stretch
-    requires { (0 < price) × (price < 10000) }
-    ensures { Alike plan.now old.now price result result.used }
-{
-    let next = next_price(plan, old);
-    let tier = plan.tier;
-    let band = grid::band_of(price, grid::stride_of(tier) as u64);
-    if price == next as u64 {
-        let first = base::word(old, FIRST_DAY);
-        return Stretch {
-            end: price + 1,
-            step: band.step,
-            first: first,
-            origin: old[ORIGIN],
-            used: ROW_LENGTH,
+    // The price of the first of the old rows, where that is of the plan's month.
+    fn next_price(&self, old: &[[u8; ROW_LENGTH]]) -> Option<u16>
+        ensures { result ≡ next_price self.now (map row_of old.now) }
+    {
+        let row = old.first()?;
+        if self.month == word(row, MONTH) {
+            Some(word(row, PRICE))
+        } else {
+            None
+        }
+    }
+
+    // Where added rows from a price on cease to be alike: at an end, at the next old row, and where a span that decides about their origin
+    // begins or has ended.
+    fn stretch_end(&self, next: Option<u16>, end: u64, price: u64) -> u64
+        ensures { Ends self.now next end price result }
+    {
+        let end = match next {
+            Some(next) => nearer(end, u64::from(next), price),
+            None => end,
         };
+        match &self.held {
+            Some(held) => {
+                let end = nearer(end, u64::from(held.low), price);
+                let end = nearer(end, u64::from(held.high) + 1, price);
+                let end = nearer(end, u64::from(self.wide.low), price);
+                nearer(end, u64::from(self.wide.high) + 1, price)
+            }
+            None => end,
+        }
     }
-    let origin = added_origin(plan, price as u16);
-    let end = stretch_end(plan, next, band.end, price);
-    Stretch {
-        end: end,
-        step: band.step,
-        first: plan.day,
-        origin: origin,
-        used: 0,
+
+    // The rows from a price on: the first of the old rows where that is its row, else those that are added up to the next change.
+    fn stretch_from<'a>(&self, old: &'a [[u8; ROW_LENGTH]], price: u64) -> Found<'a>
+        requires { (0 < price) × (price < 10000) }
+        ensures { Alike self.now (map row_of old.now) price result.stretch (map row_of result.left.now) }
+    {
+        let band = grid::band_of(price, u64::from(grid::stride_of(self.tier)));
+        if let Some((row, left)) = old.split_first() {
+            if self.has_row(row, price) {
+                let stretch = Stretch {
+                    end: price + 1,
+                    step: band.step,
+                    first: word(row, FIRST_DAY),
+                    origin: row[ORIGIN],
+                };
+                return Found { stretch, left };
+            }
+        }
+        let stretch = Stretch {
+            end: self.stretch_end(self.next_price(old), band.end, price),
+            step: band.step,
+            first: self.day,
+            origin: self.added_origin(price as u16).code(),
+        };
+        Found { stretch, left: old }
     }
 }
 
-// Writes one row at the front of a part.
-fn write_row(part: &mut [u8], month: u16, price: u16, first: u16, origin: u8)
+// Writes a row of a stretch at the front of a part.
+fn write_row(part: &mut [u8], month: u16, price: u16, stretch: &Stretch)
     requires { 8 ≤ length part.old }
-    ensures { part.new ≡ row_bytes month price first origin ++ drop 8 part.old }
+    ensures { part.new ≡ row_bytes month price stretch.now.first stretch.now.origin ++ drop 8 part.old }
 {
-    part[MONTH] = (month % 256) as u8;
-    part[MONTH + 1] = (month / 256) as u8;
-    part[PRICE] = (price % 256) as u8;
-    part[PRICE + 1] = (price / 256) as u8;
-    part[FIRST_DAY] = (first % 256) as u8;
-    part[FIRST_DAY + 1] = (first / 256) as u8;
-    part[ORIGIN] = origin;
+    put_word(part, MONTH, month);
+    put_word(part, PRICE, price);
+    put_word(part, FIRST_DAY, stretch.first);
+    part[ORIGIN] = stretch.origin;
     part[SPARE] = 0;
 }
 
 // Writes a month's ladder at the front of the register's rest. `old` is the old rows that are left; the month's come first.
-fn write_ladder(rest: &mut [u8], old: &[u8], plan: Plan) -> Written
-    requires { Spanned plan × (8 * length (prices_in plan) ≤ length rest.old) }
-    ensures size_value { (result.size ≡ 8 * length (prices_in plan)) × (result.used ≤ length old.now) × (rows_in (drop result.used old.now) ≡ left_by plan (prices_in plan) (rows_in old.now)) }
-    ensures rest_after { rest.new ≡ rows_bytes (ladder_by plan (prices_in plan) (rows_in old.now)) ++ drop (8 * length (prices_in plan)) rest.old }
+fn write_ladder<'a>(rest: &mut [u8], old: &'a [[u8; ROW_LENGTH]], plan: &Plan) -> Written<'a>
+    requires { Spanned plan.now × (8 * length (prices_in plan.now) ≤ length rest.old) }
+    ensures size { result.size ≡ 8 * length (prices_in plan.now) }
+    ensures left { map row_of result.left.now ≡ left_by plan.now (prices_in plan.now) (map row_of old.now) }
+    ensures rest_after { rest.new ≡ rows_bytes (ladder_by plan.now (prices_in plan.now) (map row_of old.now)) ++ drop (8 * length (prices_in plan.now)) rest.old }
 {
-    let high = plan.span.high as u64;
-    let mut price = plan.span.low as u64;
+    let high = u64::from(plan.span.high);
+    let mut price = u64::from(plan.span.low);
     let mut stretch = Stretch {
         end: 0,
         step: 0,
         first: 0,
         origin: 0,
-        used: 0,
     };
-    let mut at: usize = 0;
-    let mut from: usize = 0;
+    let mut left = old;
+    let mut at = 0;
     while price <= high {
         if stretch.end <= price {
-            stretch = stretch_from(&plan, &old[from..], price);
-            from += stretch.used;
+            let found = plan.stretch_from(left, price);
+            stretch = found.stretch;
+            left = found.left;
         }
-        write_row(
-            &mut rest[at..],
-            plan.month,
-            price as u16,
-            stretch.first,
-            stretch.origin,
-        );
+        write_row(&mut rest[at..], plan.month, price as u16, &stretch);
         at += ROW_LENGTH;
         price += stretch.step;
     }
-    Written {
-        size: at,
-        used: from,
-    }
-}
-
-fn strikes_at(pairs: [[u16; 2]; 6], i: usize) -> Strikes
-    requires { i < 6 }
-    ensures { result ≡ strikes_at pairs i }
-{
-    let pair = pairs[i];
-    Strikes {
-        low: pair[0],
-        high: pair[1],
-    }
-}
-
-// The plan of the month at a position.
-fn plan_at(
-    day: u16,
-    origin: u8,
-    months: [u16; 6],
-    held: [[u16; 2]; 6],
-    wide: [[u16; 2]; 6],
-    spans: [[u16; 2]; 6],
-    i: usize,
-) -> Plan
-    requires { (i < 6) × (get_or months 0 0 ≤ month_count) }
-    ensures { result ≡ plan_at day origin months held wide spans i }
-{
-    let month = months[i];
-    let tier = calendar::tier_of(months[0], month);
-    let span = strikes_at(spans, i);
-    let was = strikes_at(held, i);
-    let wider = strikes_at(wide, i);
-    Plan {
-        month: month,
-        tier: tier,
-        day: day,
-        origin: origin,
-        span: span,
-        held: was,
-        wide: wider,
-    }
+    Written { size: at, left }
 }
 
 // Writes the six ladders, each into the register's rest behind the month before, and clears what is behind them. `old` is the old
 // rows of the months that are live still. Returns where the rows end.
-pub fn write_ladders(
-    register: &mut [u8],
-    old: &[u8],
-    day: u16,
-    origin: u8,
-    months: [u16; 6],
-    held: [[u16; 2]; 6],
-    wide: [[u16; 2]; 6],
-    spans: [[u16; 2]; 6],
-) -> usize
-    requires register_len { length register.old ≡ register_length }
-    requires ready { Ready (get_or months 0 0) (plan_at day origin months held wide spans) }
-    ensures value { result ≡ rows_from + 8 * length (ladders_from (plan_at day origin months held wide spans) 0 6 (rows_in old.now)) }
-    ensures register_after { register.new ≡ take rows_from register.old ++ padded (8 * most_rows) (rows_bytes (ladders_from (plan_at day origin months held wide spans) 0 6 (rows_in old.now))) }
+pub fn write_ladders(register: &mut [u8], old: &[[u8; ROW_LENGTH]], plans: &Plans) -> usize
+    requires { length register.old ≡ register_length }
+    ensures value { result ≡ rows_from + 8 * length (ladders_from (plan_of plans.now) 0 6 (map row_of old.now)) }
+    ensures register_after { register.new ≡ take rows_from register.old ++ padded (8 * most_rows) (rows_bytes (ladders_from (plan_of plans.now) 0 6 (map row_of old.now))) }
 {
-    let mut at = layout::ROWS;
-    let mut from: usize = 0;
-    let mut i: usize = 0;
-    while i < 6 {
-        let plan = plan_at(day, origin, months, held, wide, spans, i);
-        let written = write_ladder(&mut register[at..], &old[from..], plan);
+    let mut at = ROWS;
+    let mut left = old;
+    for i in 0..6 {
+        let plan = plans.plan(i);
+        let written = write_ladder(&mut register[at..], left, &plan);
         at += written.size;
-        from += written.used;
-        i += 1;
+        left = written.left;
     }
-    layout::clear(&mut register[at..]);
+    register[at..].fill(0);
     at
 }

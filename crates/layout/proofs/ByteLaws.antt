@@ -1,11 +1,12 @@
 -- The register reads back what was written.
 -- Assumes nothing.
-use mathlib.Core.Path.{◌≡◌, refl, ap}
-use mathlib.Core.Bool.{true, false, ◌&&◌, false≢true}
+use mathlib.Core.Path.{◌≡◌, refl, ap, sym}
+use mathlib.Core.Bool.{true, false, ◌&&◌, false≢true, and-true}
 use mathlib.Core.List.{List, [], ◌∷◌, ◌++◌, append_assoc}
 use Prim.Native.Nat.{ℕ, zero, suc, ◌+◌, ◌-◌, ◌*◌, ◌≤◌, ◌<◌, max}
 use native.Mathlib.Omega.{arith}
 use lib.Dec.{eqb}
+use Rattle.std.specs.List.{fold}
 use lib.ListN.{length, replicate, length-append, length-replicate, drop}
 use lib.Seq.{drop_at, drop-drop}
 use Rattle.base.proofs.Tests.{and_i, eqb_self, and_l, and_r, by_bool}
@@ -148,13 +149,14 @@ pub layout-kept : (r : Reg) → RegFits r → in_layout (bytes_of r) ≡ true
 unfolding in_layout
 layout-kept r f = rw (back r f) (same_self (bytes_of r))
 
--- ---- zeros: the greatest of the bytes passed tells of them all
-pub zero-step : (g b : ℕ) (bs : List ℕ) → (eqb g 0 && all_zero (b ∷ bs)) ≡ (eqb (max b g) 0 && all_zero bs)
+-- ---- zeros: the greatest of the bytes tells of them all
+pub greatest_zero : (g : ℕ) (bs : List ℕ) → eqb (fold max g bs) 0 ≡ (eqb g 0 && all_zero bs)
 unfolding all_zero
-zero-step g b bs =
+greatest_zero g [] = sym (and-true _)
+greatest_zero g (b ∷ bs) =
     by_bool (eqb g 0)
-    (λ e. let z = eqb-true g 0 e in let m : max b g ≡ b = omega arith in rw (e, m))
-    (λ e. let n = eqb-false g 0 e in rw (e, ne_eqb (max b g) 0 (λ q. n (omega arith))))
+    (λ e. let z = eqb-true g 0 e in let m : max g b ≡ b = omega arith in rw (greatest_zero (max g b) bs, e, m))
+    (λ e. let n = eqb-false g 0 e in rw (greatest_zero (max g b) bs, e, ne_eqb (max g b) 0 (λ q. n (omega arith))))
 
 pub zeros_are : (xs : List ℕ) (n : ℕ) → length xs ≡ n → all_zero xs ≡ true → xs ≡ replicate n 0
 unfolding all_zero

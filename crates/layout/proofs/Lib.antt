@@ -4,3 +4,4 @@ pub mod OpeningLaws
 pub mod SpanLaws
 pub mod Held
 pub mod Running
+pub mod Chunks

@@ -1,7 +1,7 @@
 -- How a call opens: the causes that every call tries first, one after the other, and the two ways on from them.
 -- Assumes nothing.
 use mathlib.Core.Path.{◌≡◌, refl, sym, ap, ◌∙◌}
-use mathlib.Core.Bool.{true, false, cond, not}
+use mathlib.Core.Bool.{true, false, not}
 use mathlib.Core.List.{List, [], ◌∷◌}
 use Prim.Native.Nat.{ℕ}
 use native.Mathlib.Omega.{arith}
@@ -9,14 +9,17 @@ use lib.Dec.{eqb}
 use lib.ListN.{length, get_or}
 use borrow.Author.Tests.{eqb-true, eq-eqb, ne_eqb, not-true, not-false}
 use Rattle.base.specs.Causes.{cause, first_cause}
+use Rattle.base.specs.Numbers.{number_of}
+use Rattle.base.specs.declared.causes.Cause.{Cause}
+use Rattle.base.proofs.NumberLaws.{month-beside}
 use Rattle.base.proofs.Tests.{and_l, and_r}
 use Rattle.base.proofs.CauseLaws.{none_of, not-cause, decides, goes_on, alone, caused, passed}
-use Rattle.calendar.specs.Calendar.{first_lacking, Passes}
+use Rattle.calendar.specs.Calendar.{Passes}
 use Rattle.rules.specs.Rules.{Rules}
 use Rattle.rules.specs.Rulebook.{rules}
 use Rattle.layout.specs.Register.{Reg, empty, running}
 use Rattle.layout.specs.Bytes.{register_length, body_bytes, bytes_of, body_of, all_zero, reg_of, same_bytes, in_layout}
-use Rattle.layout.specs.Opening.{empty_or_well, stands, opened}
+use Rattle.layout.specs.Opening.{empty_or_well, stands, opened, Refused, Reads}
 use Rattle.layout.specs.Spans.{runs_well}
 use Rattle.layout.proofs.ByteLaws.{same_self, zeros_are}
 
@@ -55,26 +58,15 @@ module _ (R : Rules) (bs : List ℕ) (own : ℕ) where
         (none_of _ _ x.1).0,
       )
 
--- ---- the two ways: a call that is refused, by its number and the month beside 13; and one that reads the register
-pub record Refused (cal bs : List ℕ) (own n m : ℕ) : Type 0 where
-  pub says : opened (rules cal) bs own ≡ n
-  pub some : n ≡ 0 → ⊥
-  pub month : m ≡ cond (eqb n 13) (first_lacking cal) 0
-
-pub record Reads (cal bs : List ℕ) (r : Reg) : Type 0 where
-  pub passes : Passes cal
-  pub size : length bs ≡ register_length
-  pub stood : stands (rules cal) bs ≡ true
-  pub reg_is : reg_of bs ≡ r
-
--- that one's number is its own
+-- ---- a call that reads the register
+-- has the number that is its own
 module _ (cal bs : List ℕ) (r : Reg) (x : Reads cal bs r) (own : Reg → ℕ) where
   pub reads_own : opened (rules cal) bs (own (reg_of bs)) ≡ own r
   unfolding rules
   reads_own = says_own (rules cal) bs (own (reg_of bs)) x.passes x.size x.stood ∙ ap own x.reg_is
 
-  pub refused_own : (n : ℕ) → n ≡ own r → (n ≡ 0 → ⊥) → (n ≡ 13 → ⊥) → Refused cal bs (own (reg_of bs)) n 0
-  refused_own n e z t = record { says = reads_own ∙ sym e; some = z; month = rw (ne_eqb n 13 t) }
+  pub refused_own : (why : Cause) → number_of why ≡ own r → (number_of why ≡ 13 → ⊥) → Refused cal bs (own (reg_of bs)) why
+  refused_own why e t = record { says = reads_own ∙ sym e; month = rw (ne_eqb (number_of why) 13 t) (month-beside why t) }
 
 -- ---- which registers stand
 -- bytes that begin with 0 are not those of a running register

@@ -57,13 +57,20 @@ bytes_of (running b) = body_bytes b
 
 -- ---- read
 
+-- an announcement in its four bytes, a row in its eight
+abbrev pub place_of : List ℕ → ℕ × ℕ
+place_of bs = (at16 bs 0, at16 bs 2)
+
+abbrev pub row_of : List ℕ → Row
+row_of bs = row (at16 bs 0) (at16 bs 2) (record { first = at16 bs 4; origin = get_or bs 6 0 })
+
 unfoldable pub read_places : ℕ → List ℕ → List (ℕ × ℕ)
 read_places zero bs = []
-read_places (suc n) bs = (at16 bs 0, at16 bs 2) ∷ read_places n (drop 4 bs)
+read_places (suc n) bs = place_of bs ∷ read_places n (drop 4 bs)
 
 unfoldable pub read_rows : ℕ → List ℕ → List Row
 read_rows zero bs = []
-read_rows (suc n) bs = row (at16 bs 0) (at16 bs 2) (record { first = at16 bs 4; origin = get_or bs 6 0 }) ∷ read_rows n (drop 8 bs)
+read_rows (suc n) bs = row_of bs ∷ read_rows n (drop 8 bs)
 
 -- a moment is read here alone
 unfoldable pub moment_of : List ℕ → Moment

@@ -3,3 +3,4 @@ pub mod Register
 pub mod Bytes
 pub mod Opening
 pub mod Spans
+pub mod Origins

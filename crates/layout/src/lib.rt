@@ -2,10 +2,14 @@
 // running register, its bytes written and read, when it is well formed.
 #![tactic(auto)]
 
-ghost use Rattle.std.specs.Prelude.{◌≡◌, length, replicate};
-ghost use Rattle.layout.specs.Bytes.{all_zero};
+ghost use Rattle.std.specs.Prelude.{◌≡◌, ◌+◌, ◌*◌, ◌≤◌, length, drop};
+ghost use Rattle.std.specs.Simd.{first_chunks};
+ghost use Rattle.layout.specs.Bytes.{places_from, rows_from, all_zero};
+ghost use Rattle.layout.specs.Origins.{origin_code};
 
 // The register's length in bytes.
+// Kept: a register is lent as a slice, its length a `requires`. From `&mut [u8]` to `&mut [u8; REGISTER_LENGTH]` leads `try_from` alone,
+// and its clause does not say how what is written comes back.
 pub const REGISTER_LENGTH: usize = 11264;
 
 // How many announcements may wait, and how many rows may stand.
@@ -44,29 +48,64 @@ pub const ORIGIN: usize = 6;
 
 pub const SPARE: usize = 7;
 
-// Whether all bytes are zero. The loop does not leave early and keeps the greatest byte, so that the compiler vectorises it.
+// Why a row was added.
+#[derive(Clone, Copy, PartialEq, Eq, Debug)]
+pub enum Origin {
+    // Its month became live.
+    Live,
+    // It lies within the span of the session before.
+    Within,
+    // The close brought it in.
+    Close,
+    // It was announced.
+    Announced,
+    // It was listed at the start.
+    Start,
+}
+
+impl Origin {
+    // The byte that a row has for it.
+    pub fn code(self) -> u8
+        ensures { result ≡ origin_code self }
+    {
+        match self {
+            Origin::Live => 1,
+            Origin::Within => 2,
+            Origin::Close => 3,
+            Origin::Announced => 4,
+            Origin::Start => 5,
+        }
+    }
+}
+
+// Whether all bytes are zero. The greatest byte tells: a fold does not leave early, so the compiler vectorises it.
 pub fn is_zero(bytes: &[u8]) -> bool
     ensures { result ≡ all_zero bytes.now }
 {
-    let mut greatest: u8 = 0;
-    let mut i: usize = 0;
-    while i < bytes.len() {
-        let byte = bytes[i];
-        if greatest < byte {
-            greatest = byte;
-        }
-        i += 1;
-    }
-    greatest == 0
+    bytes
+        .iter()
+        .fold(0, |greatest: u8, byte| greatest.max(*byte))
+        == 0
 }
 
-// Sets all bytes to zero.
-pub fn clear(part: &mut [u8])
-    ensures { part.new ≡ replicate (length part.old) 0 }
+// The rows of a register, as many as are asked for.
+pub fn rows(register: &[u8], count: usize) -> &[[u8; ROW_LENGTH]]
+    requires { rows_from + 8 * count ≤ length register.now }
+    ensures bytes { result.now ≡ first_chunks 8 count (drop rows_from register.now) }
+    ensures count { length result.now ≡ count }
 {
-    let mut i: usize = 0;
-    while i < part.len() {
-        part[i] = 0;
-        i += 1;
-    }
+    let end = ROWS + ROW_LENGTH * count;
+    let (rows, _) = register[ROWS..end].as_chunks();
+    rows
+}
+
+// The announcements that wait in a register, as many as are asked for.
+pub fn places(register: &[u8], count: usize) -> &[[u8; PLACE_LENGTH]]
+    requires { places_from + 4 * count ≤ length register.now }
+    ensures bytes { result.now ≡ first_chunks 4 count (drop places_from register.now) }
+    ensures count { length result.now ≡ count }
+{
+    let end = PLACES + PLACE_LENGTH * count;
+    let (places, _) = register[PLACES..end].as_chunks();
+    places
 }

@@ -13,7 +13,7 @@ use Rattle.calendar.specs.Calendar.{session, Passes, next_session}
 use Rattle.grid.specs.Grid.{close_taken}
 use Rattle.rules.specs.Rules.{Moment, last_first_month}
 use Rattle.rules.specs.Rulebook.{begun, moved, first_at, rules}
-use Rattle.calls.specs.Calls.{start, session as session_call}
+use Rattle.calls.specs.declared.Call.TheVariants.{Start, Session}
 use Rattle.layout.specs.Register.{Body, empty, running}
 use Rattle.calls.specs.Listing.{number}
 use Rattle.listing.specs.Refusals.{listing_cause}
@@ -42,29 +42,29 @@ none_late cal x close p z =
 
 module _ (cal : List ℕ) (day close : ℕ) where
   -- ---- a start's own causes
-  pub no_start : (ltb day day_count && session cal day) ≡ false → number (rules cal) (start day close) empty ≡ 18
+  pub no_start : (ltb day day_count && session cal day) ≡ false → number (rules cal) (Start day close) empty ≡ 18
   unfolding number rules
   no_start h = caused (not (ltb day day_count && session cal day)) 17 _ (ap not h)
 
-  pub start_goes : (ltb day day_count && session cal day) ≡ true → number (rules cal) (start day close) empty ≡ listing_cause (first_at cal (begun day)) close
+  pub start_goes : (ltb day day_count && session cal day) ≡ true → number (rules cal) (Start day close) empty ≡ listing_cause (first_at cal (begun day)) close
   unfolding number rules listing_cause
   start_goes h = passed (not (ltb day day_count && session cal day)) 18 _ (ap not h)
 
-  pub start-taken : Passes cal → number (rules cal) (start day close) empty ≡ 0 → Taken cal (begun day) close
+  pub start-taken : Passes cal → number (rules cal) (Start day close) empty ≡ 0 → Taken cal (begun day) close
   unfolding number rules listing_cause
   start-taken p z = none_late cal (begun day) close p (none_of _ _ z).1
 
   -- ---- a session's own causes
   module _ (b : Body) where
-    pub no-session : (day ≡ next_session cal b.at.day → ⊥) → number (rules cal) (session_call day close) (running b) ≡ 19
+    pub no-session : (day ≡ next_session cal b.at.day → ⊥) → number (rules cal) (Session day close) (running b) ≡ 19
     unfolding number rules
     no-session h = caused (not (eqb day (next_session cal b.at.day))) 18 _ (ap not (ne_eqb day (next_session cal b.at.day) h))
 
-    pub session_goes : day ≡ next_session cal b.at.day → number (rules cal) (session_call day close) (running b) ≡ listing_cause (first_at cal (moved b.at day)) close
+    pub session_goes : day ≡ next_session cal b.at.day → number (rules cal) (Session day close) (running b) ≡ listing_cause (first_at cal (moved b.at day)) close
     unfolding number rules listing_cause
     session_goes h = passed (not (eqb day (next_session cal b.at.day))) 19 _ (ap not (eq-eqb day (next_session cal b.at.day) h))
 
-    pub session-taken : Passes cal → number (rules cal) (session_call day close) (running b) ≡ 0 → Taken cal (moved b.at day) close × (day ≡ next_session cal b.at.day)
+    pub session-taken : Passes cal → number (rules cal) (Session day close) (running b) ≡ 0 → Taken cal (moved b.at day) close × (day ≡ next_session cal b.at.day)
     unfolding number rules listing_cause
     session-taken p z =
         let c = none_of _ _ z in

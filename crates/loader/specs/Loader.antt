@@ -1,7 +1,9 @@
 -- Document 02, C-11: writing the file of a register: its causes 11 to 15, 17 and 30, its answer, and the output buffer after it.
 -- Assumes nothing.
-use Rattle.std.specs.Prelude.{cond, List, [], ◌∷◌, ◌++◌, ℕ, eqb, ltb, length, drop}
+use Rattle.std.specs.Prelude.{Result, Ok, Err, cond, List, [], ◌∷◌, ◌++◌, ℕ, eqb, ltb, length, drop}
 use Rattle.base.specs.Causes.{cause, first_cause}
+use Rattle.base.specs.Numbers.{number_of, month_of}
+use Rattle.base.specs.declared.causes.Cause.{Cause}
 use Rattle.calendar.specs.Calendar.{first_lacking}
 use Rattle.rules.specs.Rules.{Rules}
 use Rattle.rules.specs.Rulebook.{rules}
@@ -19,6 +21,11 @@ file_cause out (running b) = first_cause (cause (ltb (length out) (length (day_f
 -- 11 to 15 come before them
 unfoldable pub file_number : Rules → List ℕ → List ℕ → ℕ
 file_number R bs out = opened R bs (file_cause out (reg_of bs))
+
+-- the answer of a result: beside 0 the file's length, beside 13 the month
+abbrev pub written_of : Result ℕ Cause → Written
+written_of (Ok size) = record { number = 0; length = size }
+written_of (Err why) = record { number = number_of why; length = month_of why }
 
 -- beside 0 the file's length, beside 13 the first month without its session, else 0
 unfoldable pub file_at : List ℕ → List ℕ → List ℕ → Written

@@ -3,17 +3,18 @@
 
 ghost use Rattle.std.specs.Prelude.{◌≡◌};
 ghost use Rattle.rules.specs.Rulebook.{rules};
-ghost use Rattle.loader.specs.Loader.{file_at, file_after};
+ghost use Rattle.loader.specs.Loader.{written_of, file_at, file_after};
 
-use base::{causes, word};
+use base::{Cause, word};
 use fields::{DAY_FIELD, SERIES_FIELD};
 use layout::{COUNT, DAY, MONTH, ROWS};
 use naming::{count_new, put_file, rows_before};
+use register::Opened;
 
 // The longest file of a register: its day, and a call and a put for each of 1,391 rows.
 pub const MOST_LENGTH: usize = 41735;
 
-// What writing a file answers: the cause's number, or 0 and the file's length; beside 13 the month in `length`.
+// What writing a file answers C: the cause's number, or 0 and the file's length; beside 13 the month in `length`.
 #[repr(C)]
 #[derive(Drop)]
 pub struct Written {
@@ -21,41 +22,37 @@ pub struct Written {
     pub length: u32,
 }
 
-fn refused(number: u16, month: u16) -> Written
-    ensures { result ≡ record { number = number; length = month } }
-{
-    Written {
-        number,
-        length: month as u32,
+impl From<Result<u32, Cause>> for Written {
+    ghost from_gives = { λ given written. written ≡ written_of given };
+
+    fn from(given: Result<u32, Cause>) -> Written {
+        match given {
+            Ok(length) => Written { number: 0, length },
+            Err(cause) => Written {
+                number: cause.number(),
+                length: u32::from(cause.month()),
+            },
+        }
     }
 }
 
-// Writes the file of a register. An entry point: it takes any bytes.
-pub fn write(calendar: &[u8], register: &[u8], file: &mut [u8]) -> Written
-    ensures value { result ≡ file_at calendar.now register.now file.old }
+// Writes the file of a register and answers its length. An entry point: it takes any bytes.
+pub fn write(calendar: &[u8], register: &[u8], file: &mut [u8]) -> Result<u32, Cause>
+    ensures value { written_of result ≡ file_at calendar.now register.now file.old }
     ensures file_after { file.new ≡ file_after (rules calendar.now) register.now file.old }
 {
-    let opens = register::opening(calendar, register);
-    if opens.number != 0 {
-        return refused(opens.number, opens.month);
-    }
-    let spans = register::standing(calendar, register);
-    let span = spans[0];
-    if span[0] == 0 {
-        return refused(causes::REGISTER_FORM, 0);
-    }
+    let Opened::Running(_) = register::open(calendar, register)? else {
+        return Err(Cause::Empty);
+    };
     let day = word(register, DAY);
-    let rows = word(register, COUNT) as usize;
-    let length = DAY_FIELD + 2 * SERIES_FIELD * count_new(register, ROWS, rows, day);
+    let rows = layout::rows(register, word(register, COUNT) as usize);
+    let length = DAY_FIELD + 2 * SERIES_FIELD * count_new(rows, day);
     if file.len() < length {
-        return refused(causes::OUTPUT_LENGTH, 0);
+        return Err(Cause::OutputLength);
     }
     let first = word(register, ROWS + MONTH);
     let january = 12 * (first / 12 + 1);
-    let split = rows_before(register, ROWS, rows, january);
-    put_file(file, register, ROWS, rows, split, day);
-    Written {
-        number: 0,
-        length: length as u32,
-    }
+    let (earlier, later) = rows.split_at(rows_before(rows, january));
+    put_file(file, earlier, later, day);
+    Ok(length as u32)
 }

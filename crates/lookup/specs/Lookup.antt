@@ -1,6 +1,6 @@
 -- How a question's answer is told: a number, or 65,535 where the question lies outside its range.
 -- Assumes nothing.
-use Rattle.std.specs.Prelude.{Bool, cond, ◌&&◌, ℕ, ◌+◌, ◌-◌, ◌%◌, eqb, leb, ltb}
+use Rattle.std.specs.Prelude.{Bool, cond, Option, Some, None, ◌&&◌, ℕ, ◌+◌, ◌-◌, ◌%◌, eqb, leb, ltb}
 use Rattle.base.specs.declared.Tier.{Tier}
 use Rattle.base.specs.declared.Tier.TheVariants.{N, M, F}
 use Rattle.dates.specs.Months.{day_count, year_of, first_day, month_of}
@@ -14,6 +14,10 @@ outside = 65535
 -- the answer where the question is within its range
 abbrev pub or_outside : Bool → ℕ → ℕ
 or_outside in_range n = cond in_range n outside
+
+-- the same as an option
+abbrev pub some_if : {A : Type 0} → Bool → A → Option A
+some_if in_range x = cond in_range (Some x) None
 
 -- yes is 1, no is 0
 abbrev pub yes : Bool → ℕ
@@ -35,6 +39,10 @@ date_of d = record {
   month = cond (ltb d day_count) (month_of d % 12 + 1) 0;
   day = cond (ltb d day_count) (d - first_day (month_of d) + 1) 0;
 }
+
+-- what a close requires in a tier, if it is taken
+abbrev pub required_of : Tier → ℕ → Option Strikes
+required_of tier close = some_if (close_taken close) (record { low = required_low tier close; high = required_high tier close })
 
 -- what a close requires in the tier of a number; zeros where there is no such tier or the close is not taken
 unfoldable pub required_at : ℕ → ℕ → Strikes

@@ -7,23 +7,48 @@ ghost use Rattle.dates.specs.Months.{month_count, day_count, first_day, third_fr
 ghost use Rattle.calendar.specs.Calendar.{session, calendar_cause, expiry_of, next_session};
 ghost use Rattle.calendar.specs.Live.{first_live, live_months, tier_of};
 ghost use Rattle.grid.specs.Grid.{grid_of, nearest, close_taken};
-ghost use Rattle.lookup.specs.Lookup.{or_outside, yes, tier_number, tier_numbered, required_at, date_of};
+ghost use Rattle.lookup.specs.Lookup.{or_outside, some_if, yes, tier_number, tier_numbered, required_at, date_of};
 
+use base::Tier;
 use grid::Strikes;
-use lookup::Date;
+use lookup::{Date, OUTSIDE};
+
+// The tiers N, M and F are numbered 0, 1 and 2.
+#[tactic(auto, unfolding(lookup::specs::Lookup::tier_number))]
+fn tier_number(tier: Tier) -> u32
+    ensures { result ≡ tier_number tier }
+{
+    match tier {
+        Tier::N => 0,
+        Tier::M => 1,
+        Tier::F => 2,
+    }
+}
+
+#[tactic(auto, unfolding(lookup::specs::Lookup::tier_numbered))]
+fn tier_numbered(number: u32) -> Option<Tier>
+    ensures { result ≡ some_if (leb number 2) (tier_numbered number) }
+{
+    match number {
+        0 => Some(Tier::N),
+        1 => Some(Tier::M),
+        2 => Some(Tier::F),
+        _ => None,
+    }
+}
 
 #[unsafe(no_mangle)]
 pub extern "C" fn lookup_first_day(month: u32) -> u32
     ensures { result ≡ or_outside (leb month month_count) (first_day month) }
 {
-    lookup::lookup_first_day(month)
+    lookup::first_day(month).unwrap_or(OUTSIDE)
 }
 
 #[unsafe(no_mangle)]
 pub extern "C" fn lookup_third_friday(month: u32) -> u32
     ensures { result ≡ or_outside (ltb month month_count) (third_friday month) }
 {
-    lookup::lookup_third_friday(month)
+    lookup::third_friday(month).unwrap_or(OUTSIDE)
 }
 
 // The same from the constant table.
@@ -31,42 +56,46 @@ pub extern "C" fn lookup_third_friday(month: u32) -> u32
 pub extern "C" fn lookup_third_friday_table(month: u32) -> u32
     ensures { result ≡ or_outside (ltb month month_count) (third_friday month) }
 {
-    lookup::lookup_third_friday_table(month)
+    lookup::third_friday_table(month).unwrap_or(OUTSIDE)
 }
 
 #[unsafe(no_mangle)]
 pub extern "C" fn lookup_month_of(day: u32) -> u32
     ensures { result ≡ or_outside (ltb day day_count) (month_of day) }
 {
-    lookup::lookup_month_of(day)
+    lookup::month_of(day).unwrap_or(OUTSIDE)
 }
 
 #[unsafe(no_mangle)]
 pub extern "C" fn lookup_date(day: u32) -> Date
     ensures { result ≡ date_of day }
 {
-    lookup::lookup_date(day)
+    lookup::date_of(day).unwrap_or(Date {
+        year: 0,
+        month: 0,
+        day: 0,
+    })
 }
 
 #[unsafe(no_mangle)]
 pub extern "C" fn lookup_has_session(calendar: &[u8], day: u32) -> u32
     ensures { result ≡ yes (leb day 65535 && session calendar.now day) }
 {
-    lookup::lookup_has_session(calendar, day)
+    lookup::has_session(calendar, day) as u32
 }
 
 #[unsafe(no_mangle)]
 pub extern "C" fn lookup_expiry(calendar: &[u8], month: u32) -> u32
     ensures { result ≡ or_outside (ltb month month_count) (expiry_of calendar.now month) }
 {
-    lookup::lookup_expiry(calendar, month)
+    lookup::expiry(calendar, month).unwrap_or(OUTSIDE)
 }
 
 #[unsafe(no_mangle)]
 pub extern "C" fn lookup_next_session(calendar: &[u8], day: u32) -> u32
     ensures { result ≡ or_outside (ltb day day_count) (next_session calendar.now day) }
 {
-    lookup::lookup_next_session(calendar, day)
+    lookup::next_session(calendar, day).unwrap_or(OUTSIDE)
 }
 
 // The first live month is asked of a calendar that passes its check.
@@ -74,7 +103,7 @@ pub extern "C" fn lookup_next_session(calendar: &[u8], day: u32) -> u32
 pub extern "C" fn lookup_first_live(calendar: &[u8], day: u32) -> u32
     ensures { result ≡ or_outside (eqb (calendar_cause calendar.now) 0 && ltb day day_count) (first_live (expiry_of calendar.now) day) }
 {
-    lookup::lookup_first_live(calendar, day)
+    lookup::first_live(calendar, day).unwrap_or(OUTSIDE)
 }
 
 // A place from 0 to 5 of the six live months.
@@ -82,28 +111,37 @@ pub extern "C" fn lookup_first_live(calendar: &[u8], day: u32) -> u32
 pub extern "C" fn lookup_live_month(first: u32, place: u32) -> u32
     ensures { result ≡ or_outside (leb first month_count && ltb place 6) (get_or (live_months first) place 0) }
 {
-    lookup::lookup_live_month(first, place)
+    lookup::live_month(first, place).unwrap_or(OUTSIDE)
 }
 
 #[unsafe(no_mangle)]
 pub extern "C" fn lookup_tier_of(first: u32, month: u32) -> u32
     ensures { result ≡ or_outside (leb first month_count && leb month 65535) (tier_number (tier_of first month)) }
 {
-    lookup::lookup_tier_of(first, month)
+    match lookup::tier_of(first, month) {
+        Some(tier) => tier_number(tier),
+        None => OUTSIDE,
+    }
 }
 
 #[unsafe(no_mangle)]
 pub extern "C" fn lookup_on_grid(tier: u32, price: u32) -> u32
     ensures { result ≡ yes (leb tier 2 && elem price (grid_of (tier_numbered tier))) }
 {
-    lookup::lookup_on_grid(tier, price)
+    match tier_numbered(tier) {
+        Some(tier) => lookup::on_grid(tier, price) as u32,
+        None => 0,
+    }
 }
 
 #[unsafe(no_mangle)]
 pub extern "C" fn lookup_nearest(tier: u32, close: u32) -> u32
     ensures { result ≡ or_outside (leb tier 2 && close_taken close) (nearest close (grid_of (tier_numbered tier))) }
 {
-    lookup::lookup_nearest(tier, close)
+    match tier_numbered(tier) {
+        Some(tier) => lookup::nearest(tier, close).unwrap_or(OUTSIDE),
+        None => OUTSIDE,
+    }
 }
 
 // The lowest and the highest price that a close requires.
@@ -111,5 +149,9 @@ pub extern "C" fn lookup_nearest(tier: u32, close: u32) -> u32
 pub extern "C" fn lookup_required(tier: u32, close: u32) -> Strikes
     ensures { result ≡ required_at tier close }
 {
-    lookup::lookup_required(tier, close)
+    let none = Strikes { low: 0, high: 0 };
+    match tier_numbered(tier) {
+        Some(tier) => lookup::required(tier, close).unwrap_or(none),
+        None => none,
+    }
 }

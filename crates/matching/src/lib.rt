@@ -1,11 +1,10 @@
 // A register and its journal: the journal's calls run line by line, and the way on where the two have parted.
 #![tactic(auto)]
 
-mod cause;
 mod otherwise;
 mod running;
 mod way;
 
-pub use otherwise::explain;
-pub use running::{Found, run};
-pub use way::{ahead, apart};
+pub use otherwise::Otherwise;
+pub use running::{Found, Last, run};
+pub use way::{Names, Way};

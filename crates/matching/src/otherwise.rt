@@ -1,71 +1,51 @@
 // A line of a journal that tells another answer than its call gives.
-use crate::cause::in_words;
-use crate::running::run;
-use calls::{Answer, Called};
-use journal::Line;
-use text::{Parsed, put};
+use base::{Cause, NoCause};
+use journal::{Answered, Entry};
+use lines::{Quoted, Shown};
+use std::fmt;
+use std::fmt::Display;
 
-// The answer that a line tells, with its cause in words.
-fn told(out: &mut [u8], at: usize, line: &[u8]) -> usize {
-    let Parsed::Number(number) = journal::number_told(line) else {
-        return at;
-    };
-    let at = put(out, at, b"  it tells ");
-    let at = lines::quote(out, at, journal::answer_in(line));
-    let at = put(out, at, b": ");
-    let at = in_words(out, at, number);
-    text::put_byte(out, at, b'\n')
-}
+// What the number of an answer means.
+#[derive(Clone, Copy)]
+struct Meaning(u32);
 
-fn answered(out: &mut [u8], at: usize, kind: u8, pairs: &[[u32; 2]], answer: Answer) -> usize {
-    let number = answer.number as u32;
-    let mut entry = [0u8; 128];
-    let end = journal::entry(&mut entry, 0, kind, pairs, answer);
-    let at = put(out, at, b"  its call gives ");
-    let at = put(out, at, journal::answer_in(text::part(&entry, 0, end)));
-    let at = put(out, at, b": ");
-    let at = in_words(out, at, number);
-    text::put_byte(out, at, b'\n')
-}
-
-fn called(
-    out: &mut [u8],
-    at: usize,
-    calendar: &[u8],
-    register: &mut [u8],
-    kind: u8,
-    x: u32,
-    y: u32,
-) -> usize {
-    let pairs = [[x, y]];
-    let called = calling::call_by_kind(calendar, register, kind, &pairs);
-    let Called::Answered(answer) = called else {
-        return at;
-    };
-    answered(out, at, kind, &pairs, answer)
-}
-
-// What the call of a line gives on a register.
-fn given(out: &mut [u8], at: usize, line: &[u8], calendar: &[u8], register: &mut [u8]) -> usize {
-    let read = journal::call_in(line);
-    match read {
-        Line::Call(kind, x, y) => called(out, at, calendar, register, kind, x, y),
-        _ => at,
+impl Display for Meaning {
+    fn fmt<W: fmt::Write>(&self, f: &mut fmt::Formatter<W>) -> fmt::Result {
+        match Cause::try_from(self.0) {
+            Ok(cause) => write!(f, "{cause}"),
+            Err(NoCause) => f.write_str(if self.0 == 0 {
+                "accepted"
+            } else {
+                "no cause that there is"
+            }),
+        }
     }
 }
 
-// Writes such a line, what it tells, what its call gives, and what that means.
-pub fn explain(out: &mut [u8], at: usize, text: &[u8], calendar: &[u8], number: u32) -> usize {
-    let mut register = space::register();
-    let before = text::part(text, 0, lines::line_start(text, number));
-    run(before, calendar, &mut register, b"");
-    let line = lines::line(text, number);
-    let at = lines::show(out, at, text, number);
-    let at = told(out, at, line);
-    let at = given(out, at, line, calendar, &mut register);
-    put(
-        out,
-        at,
-        b"  that means: this line or one before it was changed or lost, or the calendar is another one",
-    )
+// The line, and its call with the answer that it gives.
+#[derive(Clone, Copy)]
+pub struct Otherwise<'a> {
+    pub line: Shown<'a>,
+    pub entry: Entry,
+}
+
+// The line, what it tells, what its call gives, and what that means.
+impl Display for Otherwise<'_> {
+    fn fmt<W: fmt::Write>(&self, f: &mut fmt::Formatter<W>) -> fmt::Result {
+        let line = self.line;
+        write!(f, "{line}")?;
+        if let Some(number) = journal::number_told(line.line) {
+            let told = Quoted(journal::answer_in(line.line));
+            let meaning = Meaning(number);
+            write!(f, "  it tells {told}: {meaning}\n")?;
+        }
+        let answer = self.entry.answer;
+        let given = Answered(answer);
+        let meaning = Meaning(answer.map_or_else(|cause| u32::from(cause.number()), |_| 0));
+        write!(
+            f,
+            "  its call gives {given}: {meaning}\n  \
+            that means: this line or one before it was changed or lost, or the calendar is another one"
+        )
+    }
 }

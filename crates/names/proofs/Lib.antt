@@ -1,3 +1,4 @@
+pub mod KindLaws
 pub mod DigitLaws
 pub mod RefusalLaws
 pub mod ReadLaws

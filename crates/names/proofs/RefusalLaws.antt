@@ -9,7 +9,7 @@ use lib.ListN.{length}
 use borrow.Author.Tests.{not-false, lt-ltb, le-ltb, ltb-false, eq-eqb, ne_eqb, eqb-true}
 use Rattle.base.specs.Search.{first_in}
 use Rattle.base.specs.Causes.{cause, first_cause}
-use Rattle.base.proofs.Tests.{or_fl, or_fr}
+use Rattle.base.proofs.Tests.{or_l, or_r}
 use Rattle.base.proofs.CauseLaws.{none_of, not-cause, caused, passed}
 use Rattle.dates.specs.Months.{month_count}
 use Rattle.names.specs.Names.{name_length, no_series, write_cause, misplaced, month_read, kind_read, price_read, read_cause}
@@ -29,9 +29,9 @@ module _ (m k p : ℕ) where
   unfolding first_cause
   a-series h = passed _ 28 [] h
 
-  pub kind-below : no_series m k p ≡ false → k ≤ 1
+  pub no_kind : 1 < k → no_series m k p ≡ true
   unfolding no_series
-  kind-below h = ltb-false 1 k (or_fl _ _ (or_fr (not (ltb m month_count)) _ h))
+  no_kind h = or_r (not (ltb m month_count)) _ (or_l (ltb 1 k) _ (lt-ltb 1 k h))
 
   module _ (bs : List ℕ) where
     pub write_27 : (length bs ≡ name_length → ⊥) → write_cause bs m k p ≡ 27

@@ -1,13 +1,18 @@
 -- Document 01, "Calls", Name: the 11 bytes of a series, written and read, with the causes 27 to 29.
 -- Assumes nothing.
-use Rattle.std.specs.Prelude.{Bool, cond, not, ◌||◌, List, [], ◌∷◌, ◌++◌, ℕ, zero, suc, ◌+◌, ◌-◌, ◌*◌, ◌/◌, ◌%◌, eqb, ltb, length, get_or, take, drop}
+use Rattle.std.specs.Prelude.{Bool, cond, not, ◌||◌, List, [], ◌∷◌, ◌++◌, ℕ, zero, suc, ◌+◌, ◌-◌, ◌*◌, ◌/◌, ◌%◌, eqb, ltb, length, get_or, take, drop, Result, Ok, Err}
 use Rattle.base.specs.Search.{first_in, some_in}
 use Rattle.base.specs.Lists.{elem, within}
 use Rattle.base.specs.Causes.{cause, first_cause}
 use Rattle.base.specs.declared.Tier.TheVariants.{N}
 use Rattle.dates.specs.Months.{month_count}
 use Rattle.grid.specs.Grid.{grid_of}
+use Rattle.base.specs.Numbers.{number_of}
+use Rattle.base.specs.declared.causes.Cause.{Cause}
+use Rattle.base.specs.declared.causes.Cause.TheVariants.{NameByte}
 use Rattle.names.specs.declared.Series.{Series}
+use Rattle.names.specs.declared.Named.{Named}
+use Rattle.names.specs.Kinds.{kind_number}
 
 abbrev pub name_length : ℕ
 name_length = 11
@@ -88,3 +93,12 @@ read_of name =
       kind = cond accepted (kind_read name) 0;
       price = cond accepted (price_read name) 0;
     }
+
+-- what a number has beside it, of a result: the series, or the place that 29 names
+abbrev pub place_told : Cause → ℕ
+place_told (NameByte place) = place
+place_told _ = 0
+
+abbrev pub series_of : Result Named Cause → Series
+series_of (Ok named) = record { number = 0; month = named.month; kind = kind_number named.kind; price = named.price }
+series_of (Err c) = record { number = number_of c; month = place_told c; kind = 0; price = 0 }

@@ -1,19 +1,63 @@
 // Series names: the 11 bytes of a series, written and read.
 #![tactic(auto)]
 
-ghost use Rattle.std.specs.Prelude.{◌≡◌, true, [], ◌∷◌, ◌≤◌, length};
-ghost use Rattle.base.specs.Search.{first_in};
+ghost use Rattle.std.specs.Prelude.{◌≡◌, true, [], ◌∷◌, ◌+◌, ◌%◌, ◌≤◌, length};
+ghost use Rattle.base.specs.Search.{first_in, found_in};
 ghost use Rattle.base.specs.Lists.{within};
-ghost use Rattle.names.specs.Names.{name_length, name_of, no_series, write_cause, written, value_from, can_stand, misplaced, month_read, kind_read, price_read, read_of};
+ghost use Rattle.base.specs.Numbers.{number_in};
+ghost use Rattle.names.specs.Kinds.{kind_number, KindOf};
+ghost use Rattle.names.specs.Names.{name_length, name_of, no_series, write_cause, written, value_from, can_stand, misplaced, month_read, kind_read, price_read, series_of, read_of};
 
-use base::{Tier, causes};
+use base::{Cause, Tier};
 
 // How many bytes a name has.
-pub const LENGTH: u16 = 11;
+pub const LENGTH: usize = 11;
 
-const PREFIX: [u8; 4] = [b'O', b'W', b'2', b'0'];
+const PREFIX: [u8; 4] = *b"OW20";
 
-// What reading a name gives: the cause's number, or 0, and the series; beside 29 the place in `month`.
+// What a series is an option of.
+#[derive(Clone, Copy, PartialEq, Eq, Debug)]
+pub enum Kind {
+    Call,
+    Put,
+}
+
+impl Kind {
+    // 0 a call, 1 a put.
+    pub fn number(self) -> u16
+        ensures { result ≡ kind_number self }
+    {
+        match self {
+            Kind::Call => 0,
+            Kind::Put => 1,
+        }
+    }
+}
+
+// A number above 1 is the type of no series.
+impl TryFrom<u32> for Kind {
+    type Error = Cause;
+
+    ghost try_from_gives = { KindOf };
+
+    fn try_from(number: u32) -> Result<Kind, Cause> {
+        match number {
+            0 => Ok(Kind::Call),
+            1 => Ok(Kind::Put),
+            _ => Err(Cause::NameSeries),
+        }
+    }
+}
+
+// The series that a name names.
+#[derive(Clone, Copy, PartialEq, Eq, Debug)]
+pub struct Named {
+    pub month: u16,
+    pub kind: Kind,
+    pub price: u16,
+}
+
+// What C gets of a name that was read: the cause's number, or 0, and the series; beside 29 the place in `month`.
 #[repr(C)]
 #[derive(Drop)]
 pub struct Series {
@@ -23,79 +67,102 @@ pub struct Series {
     pub price: u16,
 }
 
-// Month above 1,199, type above 1, or price not on grid N.
-fn no_series(month: u32, kind: u32, price: u32) -> bool
-    ensures { result ≡ no_series month kind price }
+impl From<Result<Named, Cause>> for Series {
+    ghost from_gives = { λ read series. series ≡ series_of read };
+
+    fn from(read: Result<Named, Cause>) -> Series {
+        match read {
+            Ok(named) => Series {
+                number: 0,
+                month: named.month,
+                kind: named.kind.number(),
+                price: named.price,
+            },
+            Err(cause) => Series {
+                number: cause.number(),
+                month: match cause {
+                    Cause::NameByte(place) => place,
+                    _ => 0,
+                },
+                kind: 0,
+                price: 0,
+            },
+        }
+    }
+}
+
+// Whether no series has this month and price: the month above 1,199, or the price not on grid N.
+fn no_series(month: u32, kind: Kind, price: u32) -> bool
+    ensures { result ≡ no_series month (kind_number kind) price }
 {
-    if (dates::MONTHS as u32) <= month {
-        return true;
-    }
-    if 1 < kind {
-        return true;
-    }
-    !grid::on_grid(Tier::N, price)
+    month >= dates::MONTHS as u32 || !grid::on_grid(Tier::N, price)
+}
+
+// The last decimal digit of a number, in ASCII.
+fn digit(number: u32) -> u8
+    ensures { result ≡ 48 + number % 10 }
+{
+    b'0' + (number % 10) as u8
 }
 
 // Puts a name into a buffer of its length.
-pub fn put(name: &mut [u8], month: u32, kind: u32, price: u32)
-    requires { (length name.old ≡ name_length) × (kind ≤ 1) }
-    ensures { name.new ≡ name_of month kind price }
+pub fn put(name: &mut [u8], month: u32, kind: Kind, price: u32)
+    requires { length name.old ≡ name_length }
+    ensures { name.new ≡ name_of month (kind_number kind) price }
 {
     let year = month / 12;
-    name[0] = PREFIX[0];
-    name[1] = PREFIX[1];
-    name[2] = PREFIX[2];
-    name[3] = PREFIX[3];
-    name[4] = b'A' + (12 * kind + month % 12) as u8;
-    name[5] = b'0' + (year / 10 % 10) as u8;
-    name[6] = b'0' + (year % 10) as u8;
-    name[7] = b'0' + (price / 1000 % 10) as u8;
-    name[8] = b'0' + (price / 100 % 10) as u8;
-    name[9] = b'0' + (price / 10 % 10) as u8;
-    name[10] = b'0' + (price % 10) as u8;
+    name.copy_from_slice(&[
+        b'O',
+        b'W',
+        b'2',
+        b'0',
+        b'A' + (12 * kind.number() as u32 + month % 12) as u8,
+        digit(year / 10),
+        digit(year),
+        digit(price / 1000),
+        digit(price / 100),
+        digit(price / 10),
+        digit(price),
+    ]);
 }
 
 // Writes the name of a series; a refusal leaves the buffer as it was.
-pub fn write(name: &mut [u8], month: u32, kind: u32, price: u32) -> u16
-    ensures value { result ≡ write_cause name.old month kind price }
+pub fn write(name: &mut [u8], month: u32, kind: u32, price: u32) -> Result<(), Cause>
+    ensures value { number_in result ≡ write_cause name.old month kind price }
     ensures name_after { name.new ≡ written name.old month kind price }
 {
-    if name.len() != LENGTH as usize {
-        return causes::NAME_LENGTH;
+    if name.len() != LENGTH {
+        return Err(Cause::NameLength);
     }
+    let kind = Kind::try_from(kind)?;
     if no_series(month, kind, price) {
-        return causes::NAME_SERIES;
+        return Err(Cause::NameSeries);
     }
     put(name, month, kind, price);
-    0
+    Ok(())
 }
 
 // The prefix, a letter from A to X, six digits.
-pub fn can_stand(place: u16, byte: u8) -> bool
+pub fn can_stand(place: usize, byte: u8) -> bool
     ensures { result ≡ can_stand place byte }
 {
-    if place < 4 {
-        return byte == PREFIX[place as usize];
+    match place {
+        0..=3 => byte == PREFIX[place],
+        4 => (b'A'..=b'X').contains(&byte),
+        _ => byte.is_ascii_digit(),
     }
-    if place == 4 {
-        return b'A' <= byte && byte <= b'X';
-    }
-    b'0' <= byte && byte <= b'9'
 }
 
-// The first place whose byte cannot stand there; 11 where each can.
-fn first_misplaced(name: &[u8]) -> u16
-    requires { length name.now ≡ name_length }
-    ensures { result ≡ first_in (misplaced name.now) 0 name_length }
+// The first place whose byte cannot stand there.
+fn first_misplaced(name: &[u8; LENGTH]) -> Option<usize>
+    ensures { result ≡ found_in (misplaced name.now) 0 name_length }
 {
-    let mut place: u16 = 0;
-    while place < LENGTH {
-        if !can_stand(place, name[place as usize]) {
-            return place;
+    for (place, byte) in name.iter().enumerate() {
+        if !can_stand(place, *byte) {
+            return Some(place);
         }
-        place += 1;
     }
-    place
+    None
 }
 
 // The value of two decimal digits.
@@ -107,45 +174,31 @@ fn pair(tens: u8, ones: u8) -> u16
 }
 
 // The series of which a name's bytes tell, where each can stand.
-pub fn told(name: &[u8]) -> Series
-    requires { (length name.now ≡ name_length) × (name_length ≤ first_in (misplaced name.now) 0 name_length) }
-    ensures { result ≡ record { number = 0; month = month_read name.now; kind = kind_read name.now; price = price_read name.now } }
+fn told(name: &[u8; LENGTH]) -> Named
+    requires { name_length ≤ first_in (misplaced name.now) 0 name_length }
+    ensures { (result.month ≡ month_read name.now) × (kind_number result.kind ≡ kind_read name.now) × (result.price ≡ price_read name.now) }
 {
     let letter = (name[4] - b'A') as u16;
-    Series {
-        number: 0,
+    Named {
         month: 12 * pair(name[5], name[6]) + letter % 12,
-        kind: letter / 12,
+        kind: if letter < 12 { Kind::Call } else { Kind::Put },
         price: 100 * pair(name[7], name[8]) + pair(name[9], name[10]),
     }
 }
 
-// A refusal: zeros beside its number, but for the place that 29 names.
-fn refused(number: u16, place: u16) -> Series
-    ensures { result ≡ record { number = number; month = place; kind = 0; price = 0 } }
-{
-    Series {
-        number,
-        month: place,
-        kind: 0,
-        price: 0,
-    }
-}
-
 // Reads a name of any bytes and any length.
-pub fn read(name: &[u8]) -> Series
-    ensures { result ≡ read_of name.now }
+pub fn read(name: &[u8]) -> Result<Named, Cause>
+    ensures { series_of result ≡ read_of name.now }
 {
-    if name.len() != LENGTH as usize {
-        return refused(causes::NAME_LENGTH, 0);
+    let Ok(name) = <&[u8; LENGTH]>::try_from(name) else {
+        return Err(Cause::NameLength);
+    };
+    if let Some(place) = first_misplaced(name) {
+        return Err(Cause::NameByte(place as u16));
     }
-    let place = first_misplaced(name);
-    if place < LENGTH {
-        return refused(causes::NAME_BYTE, place);
+    let named = told(name);
+    if no_series(named.month as u32, named.kind, named.price as u32) {
+        return Err(Cause::NameSeries);
     }
-    let series = told(name);
-    if no_series(series.month as u32, series.kind as u32, series.price as u32) {
-        return refused(causes::NAME_SERIES, 0);
-    }
-    series
+    Ok(named)
 }

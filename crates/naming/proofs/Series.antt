@@ -11,15 +11,15 @@ use lib.Seq.{sets-eq, set_at, take_at, drop_at, drop-cons, drop-drop}
 use borrow.Rule.Slice.PartMut.{put_mid}
 use Rattle.base.specs.Words.{two, at16}
 use Rattle.base.proofs.Parts.{whole_part, put_rest}
-use Rattle.names.specs.Names.{name_of}
 use Rattle.layout.specs.Rows.{Row}
+use Rattle.layout.specs.Bytes.{row_of}
 use Rattle.fields.specs.Fields.{Field, fields_bytes, day_field, series_field, file_of}
 use Rattle.fields.proofs.Laws.{fields-append}
 use Rattle.naming.specs.DayFile.{new_rows, series_of}
 use Rattle.naming.specs.Parts.{sequence}
 use Rattle.naming.proofs.Rises.{both}
 use Rattle.naming.proofs.Sequence.{series-append, series-bytes}
-use Rattle.naming.proofs.NewRows.{row_at, new_in, new_split, new-here, one_more}
+use Rattle.naming.proofs.NewRows.{new_in, new_split, new-here, one_more}
 
 -- what is put into the rest of a buffer whose front is written, said of the whole
 pub put-behind : (start front bytes : List ℕ) (n : ℕ) → bytes ≡ front ++ drop n start → length front ≡ n
@@ -58,22 +58,18 @@ pub series-length : (kind : ℕ) (rs : List Row) → length (series_bytes kind r
 unfolding fields_bytes
 series-length kind rs = omega (arith, rw append-nil at (series-bytes kind rs []))
 
--- one row more of those from a byte on
-module _ (kind day : ℕ) (bs : List ℕ) (at i : ℕ) (e : eqb (at16 bs (at + 8 * i + 4)) day ≡ true) where
-  abbrev series_at : List ℕ
-  series_at = fields_bytes (series_field (name_of (at16 bs (at + 8 * i)) kind (at16 bs (at + 8 * i + 2))) (get_or bs (at + 8 * i + 6) 0) ∷ [])
-
-  pub series-here : series_bytes kind (new_in day bs at (i + 1)) ≡ series_bytes kind (new_in day bs at i) ++ series_at
-  unfolding series_of
+-- one row more
+module _ (kind day : ℕ) (xs : List (List ℕ)) (i : ℕ) (h : i < length xs) (e : eqb (at16 (get_or xs i []) 4) day ≡ true) where
+  pub series-here : series_bytes kind (new_in day (take (i + 1) xs)) ≡ series_bytes kind (new_in day (take i xs)) ++ series_bytes kind (row_of (get_or xs i []) ∷ [])
   series-here =
-      let r : Row = row_at bs (at + 8 * i) in
-      ap (series_bytes kind) (new-here day bs at i e)
-      ∙ ap fields_bytes (series-append kind (new_in day bs at i) (r ∷ []))
-      ∙ fields-append (series_of kind (new_in day bs at i)) (series_of kind (r ∷ []))
+      let r : Row = row_of (get_or xs i []) in
+      ap (series_bytes kind) (new-here day xs i h e)
+      ∙ ap fields_bytes (series-append kind (new_in day (take i xs)) (r ∷ []))
+      ∙ fields-append (series_of kind (new_in day (take i xs))) (series_of kind (r ∷ []))
 
   -- it has room where all have
-  pub here_in : (n : ℕ) → i < n → 15 * length (new_in day bs at i) + 15 ≤ 15 * length (new_in day bs at n)
-  here_in n h = omega (arith, one_more day bs at i e, new_split day bs at (i + 1) n (omega arith))
+  pub here_in : 15 * length (new_in day (take i xs)) + 15 ≤ 15 * length (new_in day xs)
+  here_in = omega (arith, one_more day xs i h e, new_split day xs (i + 1))
 
 -- ---- a whole file: its day, calls and puts, each of the later rows and then of the others
 abbrev pub type_bytes : ℕ → List Row → List Row → List ℕ

@@ -1,23 +1,20 @@
 -- The rows of a register that holds six ladders climb by month, then price, within twelve months from the first live one. Cut where
 -- the next year begins, they are rows of two years.
 -- Assumes nothing.
-use mathlib.Core.Path.{◌≡◌, refl, sym, ap, ◌∙◌}
+use mathlib.Core.Path.{◌≡◌, refl, sym, ◌∙◌}
 use mathlib.Core.Bool.{true, false≢true}
 use mathlib.Core.List.{List, [], ◌∷◌, ◌++◌}
 use mathlib.Core.Logic.{⊎_elim}
-use Prim.Native.Nat.{ℕ, zero, suc, ◌+◌, ◌-◌, ◌*◌, ◌/◌, ◌%◌, ◌≤◌, ◌<◌}
-use native.Mathlib.Nat.{add-zero, zero-add, suc-add}
+use Prim.Native.Nat.{ℕ, zero, suc, ◌+◌, ◌*◌, ◌/◌, ◌%◌, ◌≤◌, ◌<◌}
+use native.Mathlib.Numerals.{one-add}
 use native.Mathlib.Omega.{arith}
-use lib.ListN.{drop}
-use lib.Seq.{drop-drop}
+use lib.Dec.{leb}
+use lib.ListN.{take, drop, take-append-drop}
 use borrow.Author.Tests.{leb-true, leb-false}
 use Rattle.base.specs.Words.{at16}
 use Rattle.base.specs.Lists.{elem, within}
-use Rattle.base.specs.Search.{first_in}
-use Rattle.base.proofs.WordLaws.{at16-drop}
-use Rattle.base.proofs.Tests.{and_l, and_i}
+use Rattle.base.proofs.Tests.{by_bool, and_l, and_i}
 use Rattle.base.proofs.ListLaws.{elem-here, elem-select, within_i}
-use Rattle.base.proofs.SearchLaws.{first-high, first-before, first_found}
 use Rattle.base.proofs.Rising.{select_rises}
 use Rattle.calendar.specs.Live.{live_months, tier_of}
 use Rattle.calendar.proofs.LiveLaws.{quarter_is, live_e}
@@ -31,32 +28,30 @@ use Rattle.layout.specs.Rows.{Entry, Row, row, ladder, rows_of}
 use Rattle.layout.specs.Bytes.{read_rows}
 use Rattle.layout.proofs.Held.{ladder_of, Held}
 use Rattle.naming.specs.DayFile.{new_rows}
-use Rattle.naming.specs.Parts.{rows_in, from_month}
+use Rattle.naming.specs.Parts.{before}
 use Rattle.naming.proofs.Climbing.{Each, each_so, each_both, each_front, each_back, each_new, each_rows, key_of, Climbs, climbs_lower, climbs_front, climbs_back, climbs_new, climbs-rows}
 use Rattle.naming.proofs.Rises.{InPart, TwoYears}
 
--- ---- rows that are read, in two parts
-read_parts : (a b : ℕ) (xs : List ℕ) → read_rows (a + b) xs ≡ read_rows a xs ++ read_rows b (drop (8 * a) xs)
-unfolding read_rows
-read_parts zero b xs = rw zero-add
-read_parts (suc a) b xs = let e : 8 * suc a ≡ 8 + 8 * a = omega arith in rw (suc-add, e, ← drop-drop (8 * a) 8 xs, read_parts a b (drop 8 xs))
-
-pub rows_parts : (bs : List ℕ) (at a n : ℕ) → a ≤ n → rows_in bs at n ≡ rows_in bs at a ++ rows_in bs (at + 8 * a) (n - a)
-rows_parts bs at a n h =
-    let e : n ≡ a + (n - a) = omega arith in
-    ap (λ (k : ℕ). rows_in bs at k) e ∙ read_parts a (n - a) (drop at bs) ∙ ap (λ (xs : List ℕ). rows_in bs at a ++ read_rows (n - a) xs) (drop-drop (8 * a) at bs)
-
--- the month of each row that is read
-each-month : (P : ℕ → Type 0) (n : ℕ) (xs : List ℕ) → ((i : ℕ) → i < n → P (at16 xs (8 * i))) → Each (λ r. P r.month) (read_rows n xs)
-unfolding read_rows
-each-month P zero xs h = tt
-each-month P (suc n) xs h =
-    (h 0 (omega arith), each-month P n (drop 8 xs) (λ i l. let e : 8 * suc i ≡ 8 + 8 * i = omega arith in rw (at16-drop xs 8 (8 * i), ← e) (h (suc i) (omega arith))))
-
+-- ---- rows before the first of a month, and those from it on
 read_first : (n : ℕ) (xs : List ℕ) (r : Row) (more : List Row) → read_rows n xs ≡ r ∷ more → (0 < n) × (at16 xs 0 ≡ r.month)
 unfolding read_rows
 read_first zero xs r more e = let z : ◌≡◌ {A = ℕ} 0 1 = cc in absurd (omega arith)
 read_first (suc n) xs r more e = (omega arith, cc)
+
+each-before : (month : ℕ) (rs : List Row) → Each (λ r. r.month < month) (take (before month rs) rs)
+each-before month [] = tt
+each-before month (r ∷ rs) =
+    by_bool (leb month r.month)
+    (λ e. rw e tt)
+    (λ e. rw (e, one-add) (leb-false month r.month e, each-before month rs))
+
+-- the first of the others decides for all
+climbs-behind : (month k : ℕ) (rs : List Row) → Climbs k (drop (before month rs) rs) → Climbs (10000 * month) (drop (before month rs) rs)
+climbs-behind month k [] c = tt
+climbs-behind month k (r ∷ rs) c =
+    by_bool (leb month r.month)
+    (λ e. let f = rw e at c in let l = leb-true month r.month e in rw e (omega arith, f.1))
+    (λ e. let f = rw (e, one-add) at c in rw (e, one-add) (climbs-behind month k rs f))
 
 -- rows that climb from a month on are of that month or a later one
 climbs-from : (month : ℕ) (rs : List Row) → Each (λ r. r.price < 10000) rs → Climbs (10000 * month) rs → Each (λ r. month ≤ r.month) rs
@@ -109,62 +104,44 @@ module _ (f : ℕ) (rs : List Row) (h : Held f rs) where
       (climbs-rows G h.entry (λ m. select_rises _ 0 (grid_of (tier_of f m)) (grid_rises (tier_of f m))) (λ m p e. let l = price_le (tier_of f m) p (ladder-on m p e) in omega arith)
       (live_months f) (live_rises f))
 
--- ---- such rows from a byte on, cut before the first of the year after the first month's
-module _ (bs : List ℕ) (at n f : ℕ) (h : Held f (rows_in bs at n)) where
-  pub first_read : (0 < n) × (at16 bs at ≡ f)
-  first_read =
-      let w = held_first f (rows_in bs at n) h in
-      let e = read_first n (drop at bs) w.0 w.1 w.2 in
-      (e.0, sym (ap (at16 bs) (add-zero at)) ∙ sym (at16-drop bs at 0) ∙ e.1 ∙ w.3)
+-- where such rows are read, the first has the first live month
+pub first_read : (n f : ℕ) (xs : List ℕ) → Held f (read_rows n xs) → (0 < n) × (at16 xs 0 ≡ f)
+first_read n f xs h =
+    let w = held_first f (read_rows n xs) h in
+    let e = read_first n xs w.0 w.1 w.2 in
+    (e.0, e.1 ∙ w.3)
 
+-- ---- such rows, cut before the first of the year after the first month's
+module _ (f : ℕ) (rs : List Row) (h : Held f rs) where
   abbrev y : ℕ
-  y = at16 bs at / 12
+  y = f / 12
 
   abbrev c : ℕ
-  c = at16 bs at % 12
+  c = f % 12
 
   abbrev january : ℕ
   january = 12 * (y + 1)
 
-  abbrev s : ℕ
-  s = first_in (from_month bs at january) 0 n
-
   abbrev earlier : List Row
-  earlier = rows_in bs at s
+  earlier = take (before january rs) rs
 
   abbrev later : List Row
-  later = rows_in bs (at + 8 * s) (n - s)
+  later = drop (before january rs) rs
 
-  pub rows_cut : rows_in bs at n ≡ earlier ++ later
-  rows_cut = rows_parts bs at s n (first-high (from_month bs at january) 0 n (omega arith))
+  pub rows_cut : rs ≡ earlier ++ later
+  rows_cut = sym (take-append-drop (before january rs) rs)
 
   each_live : Each (LiveRow f) (earlier ++ later)
-  each_live = rw (← rows_cut) (held-live f (rows_in bs at n) h)
+  each_live = rw (← rows_cut) (held-live f rs h)
 
   all_climb : Climbs 0 (earlier ++ later)
-  all_climb = rw (← rows_cut) (held_climb f (rows_in bs at n) h)
+  all_climb = rw (← rows_cut) (held_climb f rs h)
 
   four-digits : (r : Row) → LiveRow f r → r.price < 10000
   four-digits r l = let g = price_le (tier_of f r.month) r.price l.on-grid in omega arith
 
-  earlier_months : Each (λ r. r.month < january) earlier
-  unfolding from_month
-  earlier_months =
-      each-month (λ m. m < january) s (drop at bs)
-      (λ i l. rw (at16-drop bs at (8 * i)) (leb-false january (at16 bs (at + 8 * i)) (first-before (from_month bs at january) 0 n i (omega arith) l)))
-
-  -- the first of the others decides for all
-  later-from : (k : ℕ) → n - s ≡ k → Climbs 0 (rows_in bs (at + 8 * s) k) → Climbs (10000 * january) (rows_in bs (at + 8 * s) k)
-  unfolding read_rows from_month
-  later-from zero e k = tt
-  later-from (suc i) e k =
-      let t : january ≤ at16 bs (at + 8 * s) = leb-true _ _ (first_found (from_month bs at january) 0 n (omega arith)) in
-      let g : at16 (drop (at + 8 * s) bs) 0 ≡ at16 bs (at + 8 * s) = at16-drop bs (at + 8 * s) 0 ∙ ap (at16 bs) (add-zero (at + 8 * s)) in
-      (omega arith, k.1)
-
   pub two_years : TwoYears y c earlier later
   two_years =
-      let e = first_read.1 in
       let climb = climbs_back 0 earlier later all_climb in
       let live = each_back (LiveRow f) earlier later each_live in
       let small = each_so (LiveRow f) (λ r. r.price < 10000) four-digits later live in
@@ -173,11 +150,11 @@ module _ (bs : List ℕ) (at n f : ℕ) (h : Held f (rows_in bs at n)) where
         earlier_part = each_both (LiveRow f) (λ r. r.month < january) (InPart y c 12)
             (λ r l g. let a = (live_e f r.month l.live).0 in
             record { in_year = omega arith; not-before = omega arith; before = omega arith; four-digits = four-digits r l })
-            earlier (each_front (LiveRow f) earlier later each_live) earlier_months;
+            earlier (each_front (LiveRow f) earlier later each_live) (each-before january rs);
         later_part = each_both (LiveRow f) (λ r. january ≤ r.month) (InPart (y + 1) 0 c)
             (λ r l g. let a = live-before f r.month l.live in
             record { in_year = omega arith; not-before = omega arith; before = omega arith; four-digits = four-digits r l })
-            later live (climbs-from january later small (later-from (n - s) refl climb));
+            later live (climbs-from january later small (climbs-behind january 0 rs climb));
         earlier_climbs = climbs_front 0 earlier later all_climb;
         later_climbs = climb;
       }

@@ -1,20 +1,15 @@
 -- The parts in which a file is written: the later year's rows, then the earlier year's, for calls and then for puts. Contracts of
 -- leaves cite this file.
 -- Assumes nothing.
-use Rattle.std.specs.Prelude.{Bool, List, ◌++◌, ℕ, ◌+◌, ◌*◌, leb, drop}
-use Rattle.base.specs.Words.{at16}
+use Rattle.std.specs.Prelude.{List, ◌++◌, ℕ, leb}
+use Rattle.std.specs.List.{position_or_len}
 use Rattle.layout.specs.Rows.{Row}
-use Rattle.layout.specs.Bytes.{read_rows}
 use Rattle.fields.specs.Fields.{Field}
 use Rattle.naming.specs.DayFile.{new_rows, series_of}
 
--- n rows from a byte on
-abbrev pub rows_in : List ℕ → ℕ → ℕ → List Row
-rows_in bs at n = read_rows n (drop at bs)
-
--- the i-th row from a byte on is of a month or a later one
-unfoldable pub from_month : List ℕ → ℕ → ℕ → ℕ → Bool
-from_month bs at month i = leb month (at16 bs (at + 8 * i))
+-- how many of some rows stand before the first of a month or a later one
+abbrev pub before : ℕ → List Row → ℕ
+before month rs = position_or_len (λ (r : Row). leb month r.month) rs
 
 -- the sequence of the series
 unfoldable pub sequence : ℕ → List Row → List Row → List Field

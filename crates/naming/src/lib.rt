@@ -1,56 +1,48 @@
 // The series of a register's new rows, named in the bytes of a file.
 #![tactic(auto)]
 
-ghost use Rattle.std.specs.Prelude.{◌≡◌, [], ◌∷◌, ◌++◌, ◌+◌, ◌-◌, ◌*◌, ◌≤◌, eqb, length, drop};
+ghost use Rattle.std.specs.Prelude.{◌≡◌, [], ◌∷◌, ◌++◌, ◌+◌, ◌*◌, ◌≤◌, eqb, leb, map, length, drop};
 ghost use Rattle.base.specs.Words.{at16};
-ghost use Rattle.base.specs.Search.{first_in};
-ghost use Rattle.names.specs.Names.{name_of};
-ghost use Rattle.fields.specs.Fields.{day_field, series_field, fields_bytes, file_of};
+ghost use Rattle.fields.specs.Fields.{day_field, fields_bytes, file_of};
+ghost use Rattle.layout.specs.Bytes.{row_of};
+ghost use Rattle.names.specs.Kinds.{kind_number};
 ghost use Rattle.naming.specs.DayFile.{new_rows, series_of};
-ghost use Rattle.naming.specs.Parts.{rows_in, from_month, sequence};
+ghost use Rattle.naming.specs.Parts.{before, sequence};
 
-use base::word;
+use base::{put_word, word};
 use fields::{CONTENT, DAY_FIELD, DAY_LENGTH, DAY_TAG, SERIES_FIELD, SERIES_LENGTH, SERIES_TAG};
 use layout::{FIRST_DAY, MONTH, ORIGIN, PRICE, ROW_LENGTH};
+use names::Kind;
 
-// Whether the row at a place is new on a day.
-fn is_new(register: &[u8], place: usize, day: u16) -> bool
-    requires { place + 8 ≤ length register.now }
-    ensures { result ≡ eqb (at16 register.now (place + 4)) day }
+// Whether a row is new on a day.
+fn is_new(row: &[u8; ROW_LENGTH], day: u16) -> bool
+    ensures { result ≡ eqb (at16 row.now 4) day }
 {
-    word(register, place + FIRST_DAY) == day
+    word(row, FIRST_DAY) == day
 }
 
 // How many of some rows are new on a day.
-pub fn count_new(register: &[u8], at: usize, rows: usize, day: u16) -> usize
-    requires { at + 8 * rows ≤ length register.now }
-    ensures { (result ≡ length (new_rows day (rows_in register.now at rows))) × (result ≤ rows) }
+pub fn count_new(rows: &[[u8; ROW_LENGTH]], day: u16) -> usize
+    ensures new { result ≡ length (new_rows day (map row_of rows.now)) }
+    ensures most { result ≤ length rows.now }
 {
-    let mut new: usize = 0;
-    let mut i: usize = 0;
-    while i < rows {
-        if is_new(register, at + ROW_LENGTH * i, day) {
-            new += 1;
-        }
-        i += 1;
-    }
-    new
+    rows.iter().filter(|row| is_new(row, day)).count()
+}
+
+// Whether a row is of a month or a later one.
+fn is_from(row: &[u8; ROW_LENGTH], month: u16) -> bool
+    ensures { result ≡ leb month (at16 row.now 0) }
+{
+    month <= word(row, MONTH)
 }
 
 // How many of some rows stand before the first of a month or a later one.
-pub fn rows_before(register: &[u8], at: usize, rows: usize, month: u16) -> usize
-    requires { at + 8 * rows ≤ length register.now }
-    ensures { (result ≡ first_in (from_month register.now at month) 0 rows) × (result ≤ rows) }
+pub fn rows_before(rows: &[[u8; ROW_LENGTH]], month: u16) -> usize
+    ensures before { result ≡ before month (map row_of rows.now) }
+    ensures most { result ≤ length rows.now }
 {
-    let mut i: usize = 0;
-    while i < rows {
-        let place = at + ROW_LENGTH * i;
-        if month <= word(register, place + MONTH) {
-            return i;
-        }
-        i += 1;
-    }
-    i
+    let first = rows.iter().position(|row| is_from(row, month));
+    first.unwrap_or(rows.len())
 }
 
 // Puts the field of a day at the front of a part.
@@ -59,84 +51,69 @@ fn put_day(part: &mut [u8], day: u16)
     ensures { part.new ≡ fields_bytes (day_field day ∷ []) ++ drop 5 part.old }
 {
     part[0] = DAY_TAG;
-    part[1] = DAY_LENGTH as u8;
-    part[2] = 0;
-    part[3] = (day % 256) as u8;
-    part[4] = (day / 256) as u8;
+    put_word(part, 1, DAY_LENGTH as u16);
+    put_word(part, CONTENT, day);
 }
 
-// Puts the field of a series at the front of a part.
-fn put_series(part: &mut [u8], month: u32, kind: u32, price: u32, origin: u8)
-    requires { (15 ≤ length part.old) × (kind ≤ 1) }
-    ensures { part.new ≡ fields_bytes (series_field (name_of month kind price) origin ∷ []) ++ drop 15 part.old }
+// Puts the field of a row's series at the front of a part.
+fn put_series(part: &mut [u8], row: &[u8; ROW_LENGTH], kind: Kind)
+    requires { 15 ≤ length part.old }
+    ensures { part.new ≡ fields_bytes (series_of (kind_number kind) (row_of row.now ∷ [])) ++ drop 15 part.old }
 {
     part[0] = SERIES_TAG;
-    part[1] = SERIES_LENGTH as u8;
-    part[2] = 0;
-    let name_end = CONTENT + names::LENGTH as usize;
+    put_word(part, 1, SERIES_LENGTH as u16);
+    let name_end = CONTENT + names::LENGTH;
+    let month = u32::from(word(row, MONTH));
+    let price = u32::from(word(row, PRICE));
     names::put(&mut part[CONTENT..name_end], month, kind, price);
-    part[name_end] = origin;
+    part[name_end] = row[ORIGIN];
 }
 
 // Puts the series of a type, for those of some rows that are new on a day, one behind the other at the front of a part, and tells how
 // many bytes they are.
-fn put_part(part: &mut [u8], register: &[u8], at: usize, rows: usize, day: u16, kind: u32) -> usize
-    requires { (at + 8 * rows ≤ length register.now) × (kind ≤ 1) × (15 * length (new_rows day (rows_in register.now at rows)) ≤ length part.old) }
-    ensures value { result ≡ 15 * length (new_rows day (rows_in register.now at rows)) }
-    ensures part_after { part.new ≡ fields_bytes (series_of kind (new_rows day (rows_in register.now at rows)))
-        ++ drop (15 * length (new_rows day (rows_in register.now at rows))) part.old }
+fn put_part(part: &mut [u8], rows: &[[u8; ROW_LENGTH]], day: u16, kind: Kind) -> usize
+    requires { 15 * length (new_rows day (map row_of rows.now)) ≤ length part.old }
+    ensures value { result ≡ 15 * length (new_rows day (map row_of rows.now)) }
+    ensures part_after { part.new ≡ fields_bytes (series_of (kind_number kind) (new_rows day (map row_of rows.now)))
+        ++ drop (15 * length (new_rows day (map row_of rows.now))) part.old }
 {
-    let mut end: usize = 0;
-    let mut i: usize = 0;
-    while i < rows {
-        let place = at + ROW_LENGTH * i;
-        if is_new(register, place, day) {
-            let month = word(register, place + MONTH) as u32;
-            let price = word(register, place + PRICE) as u32;
-            put_series(
-                &mut part[end..],
-                month,
-                kind,
-                price,
-                register[place + ORIGIN],
-            );
+    let mut end = 0;
+    for row in rows {
+        if is_new(row, day) {
+            put_series(&mut part[end..], row, kind);
             end += SERIES_FIELD;
         }
-        i += 1;
     }
     end
 }
 
-// Puts the series of a type that are new on a day at the front of a part, those of the rows from `split` on before the others, and tells
-// how many bytes they are.
+// Puts the series of a type that are new on a day at the front of a part, those of the later year's rows before the others, and tells how
+// many bytes they are.
 fn put_type(
     part: &mut [u8],
-    register: &[u8],
-    at: usize,
-    rows: usize,
-    split: usize,
+    earlier: &[[u8; ROW_LENGTH]],
+    later: &[[u8; ROW_LENGTH]],
     day: u16,
-    kind: u32,
+    kind: Kind,
 ) -> usize
-    requires { (at + 8 * rows ≤ length register.now) × (split ≤ rows) × (kind ≤ 1) × (15 * length (new_rows day (rows_in register.now at rows)) ≤ length part.old) }
-    ensures value { result ≡ 15 * length (new_rows day (rows_in register.now at rows)) }
-    ensures part_after { part.new ≡ fields_bytes (series_of kind (new_rows day (rows_in register.now (at + 8 * split) (rows - split)))
-        ++ series_of kind (new_rows day (rows_in register.now at split))) ++ drop (15 * length (new_rows day (rows_in register.now at rows))) part.old }
+    requires { 15 * (length (new_rows day (map row_of earlier.now)) + length (new_rows day (map row_of later.now))) ≤ length part.old }
+    ensures value { result ≡ 15 * (length (new_rows day (map row_of earlier.now)) + length (new_rows day (map row_of later.now))) }
+    ensures part_after { part.new ≡ fields_bytes (series_of (kind_number kind) (new_rows day (map row_of later.now)) ++ series_of (kind_number kind) (new_rows day (map row_of earlier.now)))
+        ++ drop (15 * (length (new_rows day (map row_of earlier.now)) + length (new_rows day (map row_of later.now)))) part.old }
 {
-    let later = at + ROW_LENGTH * split;
-    let end = put_part(part, register, later, rows - split, day, kind);
-    end + put_part(&mut part[end..], register, at, split, day, kind)
+    let end = put_part(part, later, day, kind);
+    end + put_part(&mut part[end..], earlier, day, kind)
 }
 
 // Puts a day and the series that are new on it: letters decide first, and live months of the later year have the earlier letters, so
-// the rows from `split` on come before the others, for calls and then for puts.
-pub fn put_file(file: &mut [u8], register: &[u8], at: usize, rows: usize, split: usize, day: u16)
-    requires { (at + 8 * rows ≤ length register.now) × (split ≤ rows) × (5 + 30 * length (new_rows day (rows_in register.now at rows)) ≤ length file.old) }
-    ensures { file.new ≡ file_of day (sequence day (rows_in register.now at split) (rows_in register.now (at + 8 * split) (rows - split)))
-        ++ drop (5 + 30 * length (new_rows day (rows_in register.now at rows))) file.old }
+// its rows come before the others, for calls and then for puts.
+pub fn put_file(file: &mut [u8], earlier: &[[u8; ROW_LENGTH]], later: &[[u8; ROW_LENGTH]], day: u16)
+    requires { 5 + 30 * (length (new_rows day (map row_of earlier.now)) + length (new_rows day (map row_of later.now))) ≤ length file.old }
+    ensures { file.new ≡ file_of day (sequence day (map row_of earlier.now) (map row_of later.now))
+        ++ drop (5 + 30 * (length (new_rows day (map row_of earlier.now)) + length (new_rows day (map row_of later.now)))) file.old }
 {
     put_day(file, day);
-    let calls = put_type(&mut file[DAY_FIELD..], register, at, rows, split, day, 0);
+    let calls = put_type(&mut file[DAY_FIELD..], earlier, later, day, Kind::Call);
     let puts = DAY_FIELD + calls;
-    put_type(&mut file[puts..], register, at, rows, split, day, 1);
+    put_type(&mut file[puts..], earlier, later, day, Kind::Put);
 }

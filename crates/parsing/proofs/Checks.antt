@@ -8,17 +8,18 @@ use native.Mathlib.Nat.{add-zero, zero-add}
 use native.Mathlib.Omega.{arith}
 use lib.Dec.{T, ltb, leb}
 use lib.ListN.{length, get_or, take, drop, length-drop, drop_of_length-le}
-use lib.Seq.{get_or-drop, drop-drop, take-take}
+use lib.Seq.{get_or-drop, get_or-take, drop-drop, take-take, length-take-le}
 use borrow.Author.Count.{below_more}
-use borrow.Author.Tests.{lt-ltb, le-ltb, le-leb, ltb-true, leb-true, eqb-true, not-false}
-use Rattle.base.specs.Search.{first_from, first_in, some_in}
+use borrow.Author.Tests.{lt-ltb, le-ltb, le-leb, ltb-true, leb-true, eqb-true, not-true, not-false}
+use Rattle.std.specs.Prelude.{None}
+use Rattle.base.specs.Search.{first_from, first_in, found_in, some_in}
 use Rattle.base.specs.Lists.{elem, within}
 use Rattle.base.specs.Causes.{cause}
 use Rattle.base.specs.Words.{at16}
 use Rattle.base.specs.declared.Tier.TheVariants.{N}
 use Rattle.base.proofs.Tests.{by_bool, clash, iff, and_r, or_none}
 use Rattle.base.proofs.Table.{every, at as entry}
-use Rattle.base.proofs.SearchLaws.{none-at, none_in, some_split, some_first, some-empty}
+use Rattle.base.proofs.SearchLaws.{first_end, first_skip, found-none, none-at, none_in, some_split, some_first, some-empty}
 use Rattle.dates.specs.Months.{day_count}
 use Rattle.grid.specs.Grid.{grid_of}
 use Rattle.names.specs.Names.{name_length, can_stand}
@@ -31,16 +32,15 @@ use Rattle.fields.proofs.Steps.{step-wrong, step_unfit, step-taken, none-good, f
 use Rattle.parsing.specs.Keys.{key_of}
 use Rattle.parsing.proofs.KeyLaws.{key_bound, key-price, below_key}
 
--- ---- a place of the field at `at`
-module _ (first : Bool) (file : List ℕ) (at j : ℕ) where
-  pub wrong_end : length file - at ≤ j → wrong first (drop at file) j ≡ true
+-- ---- a place of the field at the front of some bytes
+module _ (first : Bool) (rest : List ℕ) (j : ℕ) where
+  pub wrong_end : length rest ≤ j → wrong first rest j ≡ true
   unfolding wrong
-  wrong_end h = rw (le-ltb j (length (drop at file)) (simp length-drop h))
+  wrong_end h = rw (le-ltb j (length rest) h)
 
-  pub wrong-at : j < length file - at → wrong first (drop at file) j ≡ not (byte_stands first (get_or file at 0) j (get_or file (at + j) 0))
+  pub wrong-at : j < length rest → wrong first rest j ≡ not (byte_stands first (get_or rest 0 0) j (get_or rest j 0))
   unfolding wrong
-  wrong-at h =
-      rw (lt-ltb j (length (drop at file)) (simp length-drop h), get_or-drop at file 0 0, add-zero at, get_or-drop at file j 0)
+  wrong-at h = rw (lt-ltb j (length rest) h)
 
 -- ---- a series' field by a table: the least and the greatest byte that can stand at each place
 abbrev least : List ℕ
@@ -70,16 +70,16 @@ between_is j b h l =
     (λ w. w ∙ sym (not-false (byte_stands false 2 j b) (rw w at n)))
     (λ w. w ∙ sym (rw w at n)))
 
--- the byte at place j of the field at `at` lies outside them
-abbrev outside : List ℕ → ℕ → ℕ → Bool
-outside file at j = not (between j (get_or file (at + j) 0))
+-- the byte at place j of the field lies outside them
+abbrev outside : List ℕ → ℕ → Bool
+outside field j = not (between j (get_or field j 0))
 
 -- the first n bytes of the field were tested
-abbrev pub Tested : List ℕ → ℕ → ℕ → Bool → Type 0
-Tested file at n right = ((j : ℕ) → j < n → get_or file (at + j) 0 < 256) × (right ≡ not (some_in (outside file at) 0 n))
+abbrev pub Tested : List ℕ → ℕ → Bool → Type 0
+Tested field n right = ((j : ℕ) → j < n → get_or field j 0 < 256) × (right ≡ not (some_in (outside field) 0 n))
 
-pub tested_none : (file : List ℕ) (at : ℕ) → Tested file at 0 true
-tested_none file at = (λ j h. absurd (omega arith), rw (some-empty (outside file at) 0 0 (omega arith)) refl)
+pub tested_none : (field : List ℕ) → Tested field 0 true
+tested_none field = (λ j h. absurd (omega arith), rw (some-empty (outside field) 0 0 (omega arith)) refl)
 
 one_more : (right some low high : Bool) → right ≡ not some → ((right && low) && high) ≡ not (not (low && high) || some)
 one_more right false true true e = rw e refl
@@ -89,36 +89,47 @@ one_more right true true true e = rw e refl
 one_more right true true false e = rw e refl
 one_more right true false high e = rw e refl
 
-pub tested-more : (file : List ℕ) (at n : ℕ) (right : Bool) → Tested file at n right → get_or file (at + n) 0 < 256
-    → Tested file at (n + 1) ((right && leb (get_or least n 0) (get_or file (at + n) 0)) && leb (get_or file (at + n) 0) (get_or greatest n 0))
+pub tested-more : (field : List ℕ) (n : ℕ) (right : Bool) → Tested field n right → get_or field n 0 < 256
+    → Tested field (n + 1) ((right && leb (get_or least n 0) (get_or field n 0)) && leb (get_or field n 0) (get_or greatest n 0))
 unfolding within
-tested-more file at n right t b =
-    let p = outside file at in
+tested-more field n right t b =
+    let p = outside field in
     let last : some_in p 0 (n + 1) ≡ (p n || some_in p 0 n) =
     some_split p 0 n (n + 1) (omega arith) (omega arith)
     ∙ ap (λ (x : Bool). x || some_in p 0 n) (some_first p n (n + 1) (omega arith) ∙ sym (or_none (p n) _ (some-empty p (n + 1) (n + 1) (omega arith)))) in
     (below_more _ _ t.0 b, one_more right (some_in p 0 n) _ _ t.1 ∙ ap not (sym last))
 
 -- all fifteen: the table says no exactly where some place is wrong
-pub tested_all : (file : List ℕ) (at : ℕ) (right : Bool) → at + 15 ≤ length file → Tested file at 15 right → right ≡ not (some_in (wrong false (drop at file)) 0 15)
+pub tested_all : (field : List ℕ) (right : Bool) → length field ≡ 15 → Tested field 15 right → right ≡ not (some_in (wrong false field) 0 15)
 unfolding tag_stands byte_stands
-tested_all file at right inside t =
-    let w = wrong false (drop at file) in
-    let p = outside file at in
-    let room : (j : ℕ) → j < 15 → j < length file - at = λ j h. omega arith in
+tested_all field right inside t =
+    let w = wrong false field in
+    let p = outside field in
+    let room : (j : ℕ) → j < 15 → j < length field = λ j h. omega arith in
     t.1 ∙ ap not (iff (some_in p 0 15) (some_in w 0 15)
     (λ s. by_bool (some_in w 0 15)
     (λ e. e)
-    (λ e. let stands : (j : ℕ) → j < 15 → byte_stands false (get_or file at 0) j (get_or file (at + j) 0) ≡ true =
-    λ j h. not-false _ (sym (wrong-at false file at j (room j h)) ∙ none-at w 15 e j h) in
-    let tag : get_or file at 0 ≡ 2 = eqb-true (get_or file at 0) 2 (rw (add-zero at) at (stands 0 (omega arith))) in
+    (λ e. let stands : (j : ℕ) → j < 15 → byte_stands false (get_or field 0 0) j (get_or field j 0) ≡ true =
+    λ j h. not-false _ (sym (wrong-at false field j (room j h)) ∙ none-at w 15 e j h) in
+    let tag : get_or field 0 0 ≡ 2 = eqb-true (get_or field 0 0) 2 (stands 0 (omega arith)) in
     clash (some_in p 0 15) s (none_in p 15 (λ j h. ap not (between_is j _ h (t.0 j h) ∙ (rw tag at (stands j h)))))))
     (λ s. by_bool (some_in p 0 15)
     (λ e. e)
-    (λ e. let stands : (j : ℕ) → j < 15 → byte_stands false 2 j (get_or file (at + j) 0) ≡ true =
+    (λ e. let stands : (j : ℕ) → j < 15 → byte_stands false 2 j (get_or field j 0) ≡ true =
     λ j h. sym (between_is j _ h (t.0 j h)) ∙ not-false _ (none-at p 15 e j h) in
-    let tag : get_or file at 0 ≡ 2 = eqb-true (get_or file at 0) 2 (rw (add-zero at) at (stands 0 (omega arith))) in
-    clash (some_in w 0 15) s (none_in w 15 (λ j h. wrong-at false file at j (room j h) ∙ rw (tag, stands j h) refl)))))
+    let tag : get_or field 0 0 ≡ 2 = eqb-true (get_or field 0 0) 2 (stands 0 (omega arith)) in
+    clash (some_in w 0 15) s (none_in w 15 (λ j h. wrong-at false field j (room j h) ∙ rw (tag, stands j h) refl)))))
+
+-- where no place of fifteen is wrong, none is of fewer
+pub right_none : (rest : List ℕ) (size : ℕ) → 15 ≤ length rest → size ≤ 15 → not (some_in (wrong false (take 15 rest)) 0 15) ≡ true
+    → found_in (wrong false rest) 0 size ≡ None
+right_none rest size room h e =
+    let p = wrong false rest in
+    let long : length (take 15 rest) ≡ 15 = length-take-le 15 rest room in
+    let none = not-true (some_in (wrong false (take 15 rest)) 0 15) e in
+    let same : (j : ℕ) → j < 15 → p j ≡ false = λ j l.
+    wrong-at false rest j (omega arith) ∙ rw (← get_or-take 15 rest 0 0 (omega arith), ← get_or-take 15 rest j 0 l) (sym (wrong-at false (take 15 rest) j (omega arith)) ∙ none-at (wrong false (take 15 rest)) 15 none j l) in
+    found-none p 0 size (omega (arith, first_skip p 0 size size (omega arith) (omega arith) (λ j l u. same j (omega arith)), first_end p size size (omega arith)))
 
 -- ---- what is told: a fault, or the day and so many series before those that are left
 abbrev pub fault_at : ℕ → Contents
@@ -188,11 +199,10 @@ above-name last f name g =
     (λ h. let l = ltb-true (key_of last) (key_of name) h in le-leb (key_of last + 1) (key_of name) (omega arith))
     (λ h. let l = leb-true (key_of last + 1) (key_of name) h in lt-ltb (key_of last) (key_of name) (omega arith))
 
--- the field at `at`: how long its content is by its tag, and its first wrong place
-pub record Found (file : List ℕ) (at content place : ℕ) : Type 0 where
+-- the field at `at`, and how long its content is by its tag
+pub record Found (file : List ℕ) (at content : ℕ) : Type 0 where
   pub inside : at < length file
-  pub size : content ≡ content_size (get_or file at 0)
-  pub first : place ≡ first_in (wrong false (drop at file)) 0 (3 + content)
+  pub size : content ≡ content_size (get_or (drop at file) 0 0)
 
 pub walk_begins : (file : List ℕ) (day : ℕ) → 5 ≤ first_in (wrong true file) 0 5 → day ≡ at16 file 3 → day < day_count → Walked file day 5 0 0
 walk_begins file day whole e h =
@@ -212,7 +222,7 @@ module _ {file : List ℕ} {day at least series : ℕ} (walked : Walked file day
   unfolding tell
   walk_ends h = walked.told ∙ rw (drop_of_length-le file h, none-good (length file - series) at walked.last, add-zero series)
 
-  module _ {content place : ℕ} (found : Found file at content place) where
+  module _ {content : ℕ} (found : Found file at content) where
     abbrev rest : List ℕ
     rest = drop at file
 
@@ -222,25 +232,22 @@ module _ {file : List ℕ} {day at least series : ℕ} (walked : Walked file day
     told-next : checked_of (file_read file) ≡ tell day series (series_from (suc (length file - (series + 1))) at walked.last rest)
     told-next = let fuel : suc (length file - (series + 1)) ≡ length file - series = omega (arith, walked.at_is, found.inside) in rw fuel walked.told
 
-    tag_is : get_or rest 0 0 ≡ get_or file at 0
-    tag_is = get_or-drop at file 0 0 ∙ ap (λ (k : ℕ). get_or file k 0) (add-zero at)
-
     size_is : field_size (get_or rest 0 0) ≡ 3 + content
     unfolding field_size
-    size_is = rw (tag_is, found.size)
+    size_is = rw found.size
 
-    pub walk-wrong : place < 3 + content → checked_of (file_read file) ≡ fault_at (at + place)
+    pub walk-wrong : (place : ℕ) → first_in (wrong false rest) 0 (3 + content) ≡ place → place < 3 + content → checked_of (file_read file) ≡ fault_at (at + place)
     unfolding tell
-    walk-wrong h =
-        let e : some_in (wrong false rest) 0 (field_size (get_or rest 0 0)) ≡ true = rw (size_is, ← found.first) (lt-ltb place (3 + content) h) in
-        told-next ∙ rw (step-wrong (length file - (series + 1)) at walked.last rest some e, size_is, ← found.first)
+    walk-wrong place first h =
+        let e : some_in (wrong false rest) 0 (field_size (get_or rest 0 0)) ≡ true = rw (size_is, first) (lt-ltb place (3 + content) h) in
+        told-next ∙ rw (step-wrong (length file - (series + 1)) at walked.last rest some e, size_is, first)
 
-    module _ (whole : 3 + content ≤ place) where
+    module _ (whole : 3 + content ≤ first_in (wrong false rest) 0 (3 + content)) where
       abbrev name_here : List ℕ
-      name_here = take name_length (drop (at + 3) file)
+      name_here = take name_length (drop 3 rest)
 
       none : some_in (wrong false rest) 0 (field_size (get_or rest 0 0)) ≡ false
-      none = rw (size_is, ← found.first) (le-ltb place (3 + content) whole)
+      none = rw size_is (le-ltb (first_in (wrong false rest) 0 (3 + content)) (3 + content) whole)
 
       shaped : Shaped false (front_field rest)
       shaped = front_shaped false rest none
@@ -251,14 +258,14 @@ module _ {file : List ℕ} {day at least series : ℕ} (walked : Walked file day
 
       content_is : content ≡ 12
       unfolding content_size
-      content_is = found.size ∙ rw (← tag_is, two)
+      content_is = found.size ∙ rw two
 
       pub field_inside : at + 15 ≤ length file
       field_inside = omega (arith, front-room false rest none, size_is, content_is, length-drop at file)
 
       name_is : name_in (front_field rest) ≡ name_here
       unfolding name_in front_field content_size
-      name_is = rw (two, take-take name_length 12 (drop 3 rest) (omega arith), drop-drop 3 at file)
+      name_is = rw (two, take-take name_length 12 (drop 3 rest) (omega arith))
 
       pub name_formed : Formed name_here
       name_formed = rw name_is at (named (front_field rest) shaped)

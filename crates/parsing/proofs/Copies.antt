@@ -15,7 +15,7 @@ use Rattle.base.specs.Causes.{cause}
 use Rattle.base.specs.Words.{two, at16}
 use Rattle.base.proofs.Tests.{by_bool}
 use Rattle.base.proofs.CauseLaws.{not-cause, alone, caused, passed}
-use Rattle.base.proofs.Parts.{put_next}
+use Rattle.base.proofs.Parts.{whole_part, put_rest, put_next}
 use Rattle.dates.specs.Months.{day_count}
 use Rattle.fields.specs.Fields.{Field, fields_bytes, all_series}
 use Rattle.fields.specs.Reading.{content_size, field_size, wrong, Rest, good, bad, series_from, File, dated, faulty, of_day, file_read, is_faulty, place_in, series_in, series_bytes, checked_of, read_number, read_at, read_after}
@@ -73,7 +73,6 @@ listed file h =
 -- ---- the copy of a list: so many series, and what stood there behind them
 pub record Copied (file start list : List ℕ) (i : ℕ) : Type 0 where
   pub some : i ≤ length (series_in (file_read file))
-  pub size : length list ≡ length start
   pub bytes : list ≡ take (12 * i) (series_bytes (series_in (file_read file))) ++ drop (12 * i) start
 
 module _ (file start : List ℕ) (accepted : is_faulty (file_read file) ≡ false) where
@@ -81,7 +80,7 @@ module _ (file start : List ℕ) (accepted : is_faulty (file_read file) ≡ fals
   fs = series_in (file_read file)
 
   pub copy_begins : Copied file start start 0
-  copy_begins = record { some = omega arith; size = refl; bytes = refl }
+  copy_begins = record { some = omega arith; bytes = refl }
 
   pub content_inside : (i : ℕ) → i < length fs → 5 + 15 * i + 3 + 12 ≤ length file
   content_inside i h =
@@ -97,18 +96,19 @@ module _ (file start : List ℕ) (accepted : is_faulty (file_read file) ≡ fals
       rw (← e, ← drop-drop 12 (12 * i) (series_bytes fs)) (sym (take-append-drop 12 (drop (12 * i) (series_bytes fs))))
 
   module _ (list : List ℕ) (i : ℕ) (copied : Copied file start list i) where
-    pub copy-on : i < length fs → (last : List ℕ)
-        → last ≡ take 12 (drop (5 + 15 * i + 3) file) ++ drop 12 (take (length list - 12 * i) (drop (12 * i) list))
-        → length (put_mid (12 * i) (length list - 12 * i) list last) ≡ length list
-        → Copied file start (put_mid (12 * i) (length list - 12 * i) list last) (i + 1)
-    copy-on h last e k =
+    pub copy-on : i < length fs → length list ≡ length start → 12 * i + 12 ≤ length list
+        → Copied file start (put_mid (12 * i) 12 list (take 12 (drop (5 + 15 * i + 3) file))) (i + 1)
+    copy-on h size fits =
+        let new : List ℕ = take 12 (drop (5 + 15 * i + 3) file) in
         let room : 12 * i ≤ length (series_bytes fs) = omega (arith, series-bytes fs (listed file accepted).each) in
-        let content : length (take 12 (drop (5 + 15 * i + 3) file)) ≡ 12 = length-take-le 12 (drop (5 + 15 * i + 3) file) (simp length-drop (omega (arith, content_inside i h))) in
+        let content : length new ≡ 12 = length-take-le 12 (drop (5 + 15 * i + 3) file) (simp length-drop (omega (arith, content_inside i h))) in
         let next : 12 * (i + 1) ≡ 12 * i + 12 = omega arith in
         record {
           some = omega arith;
-          size = k ∙ copied.size;
-          bytes = rw next (put_next (series_bytes fs) start list (12 * i) 12 room copied.bytes (take 12 (drop (5 + 15 * i + 3) file)) (drop (12 * i + 12) (series_bytes fs)) (content_is i h) content last e);
+          bytes =
+              rw next (ap (λ (z : List ℕ). take (12 * i) list ++ (new ++ drop 12 z)) (sym (whole_part (12 * i) list))
+              ∙ sym (put_rest (12 * i) list (new ++ drop 12 (take (length list - 12 * i) (drop (12 * i) list))))
+              ∙ put_next (series_bytes fs) start list (12 * i) 12 room copied.bytes new (drop (12 * i + 12) (series_bytes fs)) (content_is i h) content (new ++ drop 12 (take (length list - 12 * i) (drop (12 * i) list))) refl);
         }
 
     pub copy_ends : length fs ≤ i → list ≡ series_bytes fs ++ drop (12 * length fs) start

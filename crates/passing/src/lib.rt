@@ -1,33 +1,24 @@
 // Whether a calendar passes: its check, causes 11 to 13.
 #![tactic(auto)]
 
-ghost use Rattle.std.specs.Prelude.{◌≡◌, ◌+◌, ◌-◌, ◌*◌, ◌/◌, ◌<◌, ◌≤◌, length};
-ghost use Rattle.base.specs.Search.{first_in, some_in};
+ghost use Rattle.std.specs.Prelude.{◌≡◌, ◌+◌, ◌-◌, ◌*◌, ◌/◌, ◌<◌, ◌≤◌, length, IfOk, MatchOption};
+ghost use Rattle.base.specs.Search.{first_in, found_in, some_in};
 ghost use Rattle.base.specs.Lists.{least_of};
 ghost use Rattle.dates.specs.Months.{month_count, ThirdFridays};
-ghost use Rattle.calendar.specs.Calendar.{calendar_length, session, lacks, first_lacking, check_of};
+ghost use Rattle.calendar.specs.Calendar.{session, lacks, first_lacking, checked_of, check_of};
 
-use base::causes;
-use calendar::{CALENDAR_LENGTH, Checked};
+use base::Cause;
+use calendar::{CALENDAR_LENGTH, Calendar};
 use dates::MONTHS;
 
 // A calendar's last byte, of whose bits three lie after the last day.
 const LAST_BYTE: usize = 4565;
 
-// The least byte, 255 where there is none. The loop does not leave early, so that the compiler vectorises it.
-fn least_byte(calendar: &[u8]) -> u8
-    ensures { result ≡ least_of 255 calendar.now }
+// The least byte, 255 where there is none. A fold does not leave early, so the compiler vectorises it.
+fn least_byte(bytes: &[u8]) -> u8
+    ensures { result ≡ least_of 255 bytes.now }
 {
-    let mut least: u8 = 255;
-    let mut i: usize = 0;
-    while i < calendar.len() {
-        let byte = calendar[i];
-        if byte < least {
-            least = byte;
-        }
-        i += 1;
-    }
-    least
+    bytes.iter().fold(255, |least: u8, byte| least.min(*byte))
 }
 
 // Whether one of the 15 days that end with `last` has a session: their bits, in four bytes taken as one number. The four
@@ -37,90 +28,82 @@ fn recent_session(calendar: &[u8], last: u16) -> bool
     ensures { result ≡ some_in (session calendar.now) (last - 14) (last + 1) }
 {
     let at = (last / 16 * 2) as usize - 2;
-    let high = (calendar[at + 2] as u32) + 256 * (calendar[at + 3] as u32);
-    let low = (calendar[at] as u32) + 256 * (calendar[at + 1] as u32);
-    let days = low + 65536 * high;
+    let days = u32::from_le_bytes([
+        calendar[at],
+        calendar[at + 1],
+        calendar[at + 2],
+        calendar[at + 3],
+    ]);
     0 < (days >> (last % 16)) / 4 % 32768
 }
 
-// The first month that has no session in the 15 days up to its third Friday; 1,200 where each has one.
+// The first month that has no session in the 15 days up to its third Friday, if there is one.
 // No month before it lacks its session. The compiler takes two months a turn, since no scan of days stands in this loop.
-fn first_quiet(calendar: &[u8], fridays: &[u16; 1200]) -> u16
-    requires { (length calendar.now ≡ calendar_length) × ThirdFridays fridays.now }
-    ensures { (result ≤ month_count) × (first_lacking calendar.now ≡ first_in (lacks calendar.now) result month_count) }
+fn first_quiet(calendar: &[u8; CALENDAR_LENGTH], fridays: &[u16; 1200]) -> Option<u16>
+    requires { ThirdFridays fridays.now }
+    ensures { MatchOption result (month_count ≤ first_lacking calendar.now)
+        (λ month. (month < month_count) × (first_lacking calendar.now ≡ first_in (lacks calendar.now) month month_count)) }
 {
-    let mut month: u16 = 0;
-    while month < MONTHS {
+    for month in 0..MONTHS {
         if !recent_session(calendar, fridays[month as usize]) {
-            return month;
+            return Some(month);
         }
-        month += 1;
     }
-    month
+    None
 }
 
-// The first month that has no session from its first day to its third Friday; 1,200 where each has one.
+// The first month that has no session from its first day to its third Friday, if there is one.
 // Both scans, of months and of days, are left at that month. The last 15 of a month's days are looked at together, the
 // days before them one by one.
-fn scan_months(calendar: &[u8], fridays: &[u16; 1200]) -> u16
-    requires { (length calendar.now ≡ calendar_length) × ThirdFridays fridays.now }
-    ensures { result ≡ first_lacking calendar.now }
+fn scan_months(calendar: &[u8; CALENDAR_LENGTH], fridays: &[u16; 1200]) -> Option<u16>
+    requires { ThirdFridays fridays.now }
+    ensures { result ≡ found_in (lacks calendar.now) 0 month_count }
 {
-    let mut month = first_quiet(calendar, fridays);
-    'months: while month < MONTHS {
+    let from = first_quiet(calendar, fridays)?;
+    let mut lacking = None;
+    'months: for month in from..MONTHS {
         let last = fridays[month as usize];
-        let mut day = dates::first_day(month);
-        let mut found = recent_session(calendar, last);
-        while !found {
+        if recent_session(calendar, last) {
+            continue;
+        }
+        for day in dates::first_day(month)..last - 13 {
             if day + 14 == last {
+                lacking = Some(month);
                 break 'months;
             }
-            found = calendar::has_session(calendar, day);
-            day += 1;
+            if calendar::has_session(calendar, day) {
+                continue 'months;
+            }
         }
-        month += 1;
     }
-    month
+    lacking
 }
 
-// The first month that has no session from its first day to its third Friday; 1,200 where each has one.
+// The first month that has no session from its first day to its third Friday, if there is one.
 // Each of these stretches holds a whole byte of the calendar: where no byte is zero, no month lacks its session.
-fn first_lacking(calendar: &[u8]) -> u16
-    requires { length calendar.now ≡ calendar_length }
-    ensures { result ≡ first_lacking calendar.now }
+fn first_lacking(calendar: &[u8; CALENDAR_LENGTH]) -> Option<u16>
+    ensures { result ≡ found_in (lacks calendar.now) 0 month_count }
 {
     if 0 < least_byte(calendar) {
-        return MONTHS;
+        return None;
     }
     let fridays = dates::third_fridays();
     scan_months(calendar, &fridays)
 }
 
 // The calendar's check. An entry point: it takes any bytes.
-pub fn check(calendar: &[u8]) -> Checked
-    ensures { result ≡ check_of calendar.now }
+pub fn check(calendar: &[u8]) -> Result<Calendar<'_>, Cause>
+    ensures answer { checked_of result ≡ check_of calendar.now }
+    ensures bytes { IfOk result (λ passed. passed.bytes.now ≡ calendar.now) }
 {
-    if calendar.len() != CALENDAR_LENGTH {
-        return Checked {
-            number: causes::CALENDAR_LENGTH,
-            month: 0,
-        };
+    let Ok(bytes) = <&[u8; CALENDAR_LENGTH]>::try_from(calendar) else {
+        return Err(Cause::CalendarLength);
+    };
+    if 32 <= bytes[LAST_BYTE] {
+        return Err(Cause::CalendarTail);
     }
-    if 32 <= calendar[LAST_BYTE] {
-        return Checked {
-            number: causes::CALENDAR_TAIL,
-            month: 0,
-        };
-    }
-    let month = first_lacking(calendar);
-    if month < MONTHS {
-        return Checked {
-            number: causes::CALENDAR_MONTH,
-            month,
-        };
-    }
-    Checked {
-        number: 0,
-        month: 0,
+    match first_lacking(bytes) {
+        Some(month) => Err(Cause::CalendarMonth(month)),
+        None => Ok(Calendar { bytes: calendar }),
     }
 }

@@ -1,156 +1,163 @@
 // A month's column: a bar for each row, the ladder's two ends, and month, tier and expiry date below.
-use crate::scale::{Scale, between, excess, height_of};
-use crate::shapes::shape;
-use reading::Row;
+use crate::scale::Scale;
+use crate::shapes::Pixels;
+use reading::{Register, Row, Span};
+use std::fmt;
+use std::fmt::Display;
+use text::{Date, Month};
 
 // How thick a bar is, by the distance to the next one: three quarters of it, and all of it where bars are close, but at
 // least a pixel and a half and at most eight.
 fn thickness(distance: u32) -> u32 {
-    if distance < 15 {
-        return 15;
+    match distance {
+        0..=14 => 15,
+        15..=29 => distance,
+        30..=99 => distance * 3 / 4,
+        _ => 80,
     }
-    if distance < 30 {
-        return distance;
-    }
-    if distance < 100 { distance * 3 / 4 } else { 80 }
 }
 
 // The bar of a row, with the price where the pointer rests on it, and the black block beside a new one. The bar is the
 // thicker the farther the price beside it is.
-fn bar(out: &mut [u8], at: usize, row: Row, other: u32, scale: Scale, day: u32) -> usize {
-    let thick = thickness(between(scale, row.price, other));
-    let top = excess(height_of(scale, row.price), thick / 2);
-    let at = shape(
-        out,
-        at,
-        b"<path class='o%n' d='M25 %n",
-        row.origin,
-        top,
-        b"h%nv%n",
-        90,
-        thick,
-        b"h-90z'><title>%n since %d</title></path>\n",
-        [row.price, row.first, 0, 0, 0, 0],
-    );
-    if row.first != day {
-        return at;
-    }
-    shape(
-        out,
-        at,
-        b"<path d='M%n %n",
-        118,
-        top,
-        b"h%nv%n",
-        8,
-        thick,
-        b"h-8z'/>\n",
-        [0; 6],
-    )
+#[derive(Clone, Copy)]
+struct Bar {
+    row: Row,
+    beside: Row,
+    scale: Scale,
+    day: u32,
 }
 
-// The row beside a row: the next one, or the one before the last.
-fn beside(i: u32, end: u32) -> u32 {
-    if end <= 1 {
-        return 0;
+impl Display for Bar {
+    fn fmt<W: fmt::Write>(&self, f: &mut fmt::Formatter<W>) -> fmt::Result {
+        let Row {
+            price,
+            first,
+            origin,
+            ..
+        } = self.row;
+        let thick = thickness(self.scale.between(price, self.beside.price));
+        let top = self.scale.height_of(price).saturating_sub(thick / 2);
+        writeln!(
+            f,
+            "<path class='o{origin}' d='M25 {}h90v{}h-90z'><title>{price} since {}</title></path>",
+            Pixels(top),
+            Pixels(thick),
+            Date(first),
+        )?;
+        if first == self.day {
+            writeln!(
+                f,
+                "<path d='M118 {}h8v{}h-8z'/>",
+                Pixels(top),
+                Pixels(thick)
+            )?;
+        }
+        Ok(())
     }
-    if i < end - 1 { i + 1 } else { end - 2 }
 }
 
-fn bars(out: &mut [u8], at: usize, rows: &[u8], scale: Scale, day: u32) -> usize {
-    let end = reading::count(rows);
-    let mut at = at;
-    let mut i: u32 = 0;
-    while i < end {
-        let row = reading::row_at(rows, i);
-        let other = reading::row_at(rows, beside(i, end));
-        at = bar(out, at, row, other.price, scale, day);
-        i += 1;
-    }
-    at
-}
-
-// The live month at a place from 0 to 5: its ladder before a pale ground that shows the span, with the lowest and the
-// highest price at its ends.
-fn column(
-    out: &mut [u8],
-    at: usize,
-    calendar: &[u8],
-    register: &[u8],
+// A live month: its ladder before a pale ground that shows the span, with the lowest and the highest price at its ends.
+#[derive(Clone, Copy)]
+struct Column<'a> {
+    register: Register<'a>,
     scale: Scale,
     month: u32,
-    day: u32,
-    left: u32,
-) -> usize {
-    let rows = reading::rows_of(register, month);
-    let high = reading::highest(rows);
-    let low = reading::lowest(rows);
-    let top = height_of(scale, high);
-    let bottom = height_of(scale, low) % 100000;
-    let at = shape(
-        out,
-        at,
-        b"<g transform='translate(%n 0)'>\n<path class='s' d='M25 %n",
-        left,
-        top,
-        b"h%nv%n",
-        90,
-        excess(bottom, top),
-        b"h-90z'/>\n",
-        [0; 6],
-    );
-    let at = bars(out, at, rows, scale, day);
-    let tier = reading::tier(register, month);
-    shape(
-        out,
-        at,
-        b"<text class='c' x='%n' y='%n",
-        70,
-        excess(top, 80),
-        b"'>%n</text>\n<text class='c' x='70' y='%n",
-        high,
-        bottom + 170,
-        b"'>%n</text>
-<text class='m' x='70' y='1146'>%m</text>
-<text class='c' x='70' y='1165'>tier %t</text>
-<text class='c' x='70' y='1183'>expires %d</text>
-</g>
-",
-        [
-            low,
-            month,
-            tier,
-            lookup::lookup_expiry(calendar, month),
-            0,
-            0,
-        ],
-    )
+    expiry: u32,
+    span: Span,
 }
 
-// The columns of the six live months.
-pub fn columns(
-    out: &mut [u8],
-    at: usize,
-    calendar: &[u8],
-    register: &[u8],
-    scale: Scale,
-    day: u32,
-) -> usize {
-    let mut at = at;
-    let mut place: u32 = 0;
-    while place < 6 {
-        let month = reading::live_month(register, place);
-        at = column(
-            out,
-            at,
-            calendar,
+impl<'a> Column<'a> {
+    fn of(register: Register<'a>, scale: Scale, month: u32) -> Option<Column<'a>> {
+        let expiry = lookup::expiry(register.calendar, month)?;
+        let span = register.rows_of(month).span()?;
+        Some(Column {
             register,
             scale,
             month,
-            day,
-            80 + 150 * place,
-        );
-        place += 1;
+            expiry,
+            span,
+        })
     }
-    at
+}
+
+impl Display for Column<'_> {
+    fn fmt<W: fmt::Write>(&self, f: &mut fmt::Formatter<W>) -> fmt::Result {
+        let Column {
+            register,
+            scale,
+            month,
+            expiry,
+            span,
+        } = *self;
+        let Span { low, high } = span;
+        let top = scale.height_of(high);
+        let bottom = scale.height_of(low);
+        writeln!(
+            f,
+            "<path class='s' d='M25 {}h90v{}h-90z'/>",
+            Pixels(top),
+            Pixels(bottom.saturating_sub(top)),
+        )?;
+        bars(f, register, scale, month)?;
+        write!(
+            f,
+            "<text class='c' x='70' y='{}'>{high}</text>
+<text class='c' x='70' y='{}'>{low}</text>
+<text class='m' x='70' y='1146'>{}</text>
+<text class='c' x='70' y='1165'>tier {}</text>
+<text class='c' x='70' y='1183'>expires {}</text>
+",
+            Pixels(top.saturating_sub(80)),
+            Pixels(bottom + 170),
+            Month(month),
+            register.tier(month),
+            Date(expiry),
+        )
+    }
+}
+
+// Beside each row stands the next one, beside the last the one before it.
+fn bars<W: fmt::Write>(
+    f: &mut fmt::Formatter<W>,
+    register: Register<'_>,
+    scale: Scale,
+    month: u32,
+) -> fmt::Result {
+    let day = register.day();
+    let rows = register.rows_of(month);
+    let last = rows.count().saturating_sub(2);
+    let others = rows.skip(1).chain(rows.skip(last));
+    for (row, beside) in rows.zip(others) {
+        write!(
+            f,
+            "{}",
+            Bar {
+                row,
+                beside,
+                scale,
+                day
+            }
+        )?;
+    }
+    Ok(())
+}
+
+// The columns of the six live months.
+#[derive(Clone, Copy)]
+pub struct Columns<'a> {
+    pub register: Register<'a>,
+    pub scale: Scale,
+}
+
+impl Display for Columns<'_> {
+    fn fmt<W: fmt::Write>(&self, f: &mut fmt::Formatter<W>) -> fmt::Result {
+        let Columns { register, scale } = *self;
+        for (place, &month) in register.live_months().iter().enumerate() {
+            if let Some(column) = Column::of(register, scale, month) {
+                let left = 80 + 150 * place;
+                write!(f, "<g transform='translate({left} 0)'>\n{column}</g>\n")?;
+            }
+        }
+        Ok(())
+    }
 }

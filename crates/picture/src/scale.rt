@@ -1,119 +1,88 @@
 // The scale of prices: heights in tenths of a pixel, and the axis with its grid lines.
-use crate::shapes::shape;
+ghost use Rattle.std.specs.Prelude.{◌<◌, ◌≤◌};
+
+use crate::shapes::Pixels;
+use reading::{Register, Span};
+use std::fmt;
+use std::fmt::Display;
 
 // Where the highest and the lowest price stand, in tenths of a pixel from the top.
 const TOP: u32 = 1700;
 
 const BOTTOM: u32 = 11000;
 
+// No price is as high as this: a name has four digits for it.
+const PAST_PRICES: u32 = 10000;
+
 // The lowest and the highest price of all rows.
 #[derive(Clone, Copy)]
 pub struct Scale {
-    pub low: u32,
-    pub high: u32,
+    low: u32,
+    high: u32,
+    ghost rises: { low < high },
 }
 
-// The scale that also takes in some rows.
-fn widened(scale: Scale, rows: &[u8]) -> Scale {
-    let low = reading::lowest(rows);
-    let high = reading::highest(rows);
-    Scale {
-        low: if low < scale.low { low } else { scale.low },
-        high: if scale.high < high { high } else { scale.high },
+impl Scale {
+    // The scale of the six live months; none where nothing is listed.
+    pub fn of(register: Register<'_>) -> Option<Scale> {
+        let months = register.live_months();
+        let span = months
+            .iter()
+            .filter_map(|&month| register.rows_of(month).span())
+            .reduce(Span::joined)?;
+        let Span { low, high } = span;
+        if low < high {
+            Some(Scale { low, high })
+        } else {
+            None
+        }
+    }
+
+    // How long the stretch between two prices is on the scale.
+    pub fn between(self, a: u32, b: u32) -> u32 {
+        a.abs_diff(b).saturating_mul(BOTTOM - TOP) / (self.high - self.low)
+    }
+
+    // Where a price stands.
+    pub fn height_of(self, price: u32) -> u32
+        ensures { result ≤ 11000 }
+    {
+        BOTTOM.saturating_sub(self.between(self.low, price))
+    }
+
+    // The round distance between grid lines that gives at most twenty.
+    fn step(self) -> usize
+        ensures { 0 < result }
+    {
+        match self.high - self.low {
+            0..=200 => 10,
+            201..=400 => 20,
+            401..=1000 => 50,
+            1001..=2000 => 100,
+            2001..=4000 => 200,
+            _ => 500,
+        }
     }
 }
 
-// The scale of the six live months.
-pub fn scale_of(register: &[u8]) -> Scale {
-    let mut scale = Scale {
-        low: lookup::OUTSIDE,
-        high: 0,
-    };
-    let mut place: u32 = 0;
-    while place < 6 {
-        let month = reading::live_month(register, place);
-        scale = widened(scale, reading::rows_of(register, month));
-        place += 1;
-    }
-    scale
-}
+// Grid lines at the round prices within the scale.
+#[derive(Clone, Copy)]
+pub struct Axis(pub Scale);
 
-// How long the stretch between two prices is on the scale.
-pub fn between(scale: Scale, a: u32, b: u32) -> u32 {
-    if scale.high <= scale.low {
-        return 0;
+impl Display for Axis {
+    fn fmt<W: fmt::Write>(&self, f: &mut fmt::Formatter<W>) -> fmt::Result {
+        let scale = self.0;
+        for price in (0..PAST_PRICES).step_by(scale.step()) {
+            if scale.low <= price && price <= scale.high {
+                let height = scale.height_of(price);
+                writeln!(
+                    f,
+                    "<path class='g' d='M80 {}h900'/><text class='y' x='72' y='{}'>{price}</text>",
+                    Pixels(height),
+                    Pixels(height + 45),
+                )?;
+            }
+        }
+        Ok(())
     }
-    let points = if a < b { b - a } else { a - b };
-    points % 10000 * (BOTTOM - TOP) / (scale.high - scale.low)
-}
-
-// What a exceeds b by.
-pub fn excess(a: u32, b: u32) -> u32 {
-    if b <= a { a - b } else { 0 }
-}
-
-// Where a price stands.
-pub fn height_of(scale: Scale, price: u32) -> u32 {
-    excess(BOTTOM, between(scale, scale.low, price))
-}
-
-// The round distance between grid lines that gives at most twenty.
-fn step_of(scale: Scale) -> u32 {
-    if scale.high <= scale.low {
-        return 10;
-    }
-    let all = scale.high - scale.low;
-    if all <= 200 {
-        return 10;
-    }
-    if all <= 400 {
-        return 20;
-    }
-    if all <= 1000 {
-        return 50;
-    }
-    if all <= 2000 {
-        return 100;
-    }
-    if all <= 4000 { 200 } else { 500 }
-}
-
-fn grid_line(out: &mut [u8], at: usize, scale: Scale, step: u32, price: u32) -> usize {
-    if step == 0 {
-        return at;
-    }
-    if price % step != 0 {
-        return at;
-    }
-    if price < scale.low {
-        return at;
-    }
-    if scale.high < price {
-        return at;
-    }
-    let height = height_of(scale, price) % 100000;
-    shape(
-        out,
-        at,
-        b"<path class='g' d='M%n %n",
-        80,
-        height,
-        b"h%n'/><text class='y' x='72' y='%n",
-        900,
-        height + 45,
-        b"'>%n</text>\n",
-        [price, 0, 0, 0, 0, 0],
-    )
-}
-
-// Grid lines at the round prices within the scale; they are multiples of 10.
-pub fn axis(out: &mut [u8], at: usize, scale: Scale) -> usize {
-    let step = step_of(scale);
-    let mut end = at;
-    let mut price: u32 = 0;
-    while price < 10000 {
-        end = grid_line(out, end, scale, step, price);
-        price += 10;
-    }
-    end
 }

@@ -1,57 +1,34 @@
 // Names of files as words of a command line, for messages that tell a command to run.
 #![tactic(auto)]
 
+use text::Text;
+
 // Letters that a shell leaves as they are.
 fn is_plain(byte: u8) -> bool {
-    (b'-' <= byte && byte <= b'9')
-        || (b'a' <= byte && byte <= b'z')
-        || (b'A' <= byte && byte <= b'Z')
-        || byte == b'_'
-}
-
-fn first_odd(name: &[u8]) -> usize {
-    let mut i: usize = 0;
-    while i < name.len() {
-        if !is_plain(name[i]) {
-            return i;
-        }
-        i += 1;
-    }
-    i
+    matches!(byte, b'-'..=b'9' | b'a'..=b'z' | b'A'..=b'Z' | b'_')
 }
 
 // A letter between quotes, which a quote itself has to leave.
-fn put_quoted(out: &mut [u8], at: usize, byte: u8) -> usize {
+fn put_quoted<const N: usize>(out: &mut Text<N>, byte: u8) {
     if byte == b'\'' {
-        return text::put(out, at, b"'\\''");
+        out.put(b"'\\''");
+    } else {
+        out.put(&[byte]);
     }
-    text::put_byte(out, at, byte)
-}
-
-fn put_letters(out: &mut [u8], at: usize, name: &[u8]) -> usize {
-    let mut end = at;
-    let mut i: usize = 0;
-    while i < name.len() {
-        end = put_quoted(out, end, name[i]);
-        i += 1;
-    }
-    end
-}
-
-fn put_dash(out: &mut [u8], at: usize, name: &[u8]) -> usize {
-    if text::same(text::part(name, 0, 1), b"-") {
-        return text::put(out, at, b"./");
-    }
-    at
 }
 
 // A name as a word of a command line: in quotes where a shell would read something else, and never like an option.
-pub fn put_word(out: &mut [u8], at: usize, name: &[u8]) -> usize {
-    let start = put_dash(out, at, name);
-    if first_odd(name) == name.len() {
-        return text::put(out, start, name);
+pub fn put_word<const N: usize>(out: &mut Text<N>, name: &[u8]) {
+    if name.starts_with(b"-") {
+        out.put(b"./");
     }
-    let open = text::put_byte(out, start, b'\'');
-    let end = put_letters(out, open, name);
-    text::put_byte(out, end, b'\'')
+    if name.iter().all(|&byte| is_plain(byte)) {
+        out.put(name);
+        return;
+    }
+    out.put(b"'");
+    for &byte in name {
+        put_quoted(out, byte);
+    }
+    out.put(b"'");
 }

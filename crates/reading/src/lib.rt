@@ -1,219 +1,147 @@
-// What stands in a register's bytes: total questions over any bytes, answered by 0 or by lookup::OUTSIDE where the bytes do
-// not have it. No other crate of the console knows where a register has what.
+// What stands in a register's bytes: total questions over any bytes. What is missing of them is read as zeros, so that there
+// are no rows where they end early. No other crate of the console knows where a register has what.
 //
-// `cause` alone looks whether the register stands. What is told of live months and of their rows is so where it does.
+// `refusal` alone looks whether the register stands. What is told of live months and of their rows is so where it does.
 #![tactic(auto)]
 
-ghost use Rattle.std.specs.Prelude.{◌<◌};
+ghost use Rattle.std.specs.Prelude.{◌≤◌};
+ghost use Rattle.dates.specs.Months.{month_count};
 
-use layout::{
-    COUNT, DAY, FIRST_DAY, MONTH, MOST_ROWS, ORIGIN, PLACE_LENGTH, PLACES, PRICE, ROW_LENGTH, ROWS,
-    SPARE, STATUS, WAITING,
-};
-use lookup::OUTSIDE;
+mod places;
 
-#[derive(Drop)]
-pub struct Row {
-    pub month: u32,
-    pub price: u32,
-    pub first: u32,
-    pub origin: u32,
+use base::{Cause, Tier};
+use dates::MONTHS;
+use layout::{COUNT, DAY, MONTH, PLACE_LENGTH, PLACES, ROW_LENGTH, ROWS, SPARE, STATUS, WAITING};
+pub use places::{Announcement, Announcements, Records, Row, Rows, Span};
+
+// A register under its calendar.
+#[derive(Clone, Copy)]
+pub struct Register<'a> {
+    pub calendar: &'a [u8],
+    pub bytes: &'a [u8],
 }
 
-#[derive(Drop)]
-pub struct Announcement {
-    pub month: u32,
-    pub price: u32,
+// What a byte of a register belongs to.
+#[derive(Clone, Copy, PartialEq, Eq, Debug)]
+pub enum Part {
+    // The status, the day, the two counts, or a byte that nothing uses.
+    Other,
+    // The announcement or the row of a number, counted from 0.
+    Announcement(usize),
+    Row(usize),
 }
 
-fn wide(byte: u8) -> u32
-    ensures { result < 256 }
-{
-    byte as u32
-}
-
-// The byte at a place; 0 past the end.
-pub fn byte_at(bytes: &[u8], at: usize) -> u32 {
-    if at < bytes.len() {
-        return wide(bytes[at]);
+pub fn part_at(place: usize) -> Part {
+    if place < PLACES {
+        return Part::Other;
     }
-    0
+    if place < ROWS {
+        return Part::Announcement((place - PLACES) / PLACE_LENGTH);
+    }
+    let place = place - ROWS;
+    if place % ROW_LENGTH == SPARE {
+        Part::Other
+    } else {
+        Part::Row(place / ROW_LENGTH)
+    }
 }
 
-// The number in two bytes, low byte first; 0 past the end.
-pub fn word_at(bytes: &[u8], at: usize) -> u32 {
-    if at < bytes.len() {
-        let low = wide(bytes[at]);
-        let next = at + 1;
-        if next < bytes.len() {
-            return low + 256 * wide(bytes[next]);
+impl<'a> Register<'a> {
+    fn byte(self, at: usize) -> u8 {
+        self.bytes.get(at).copied().unwrap_or(0)
+    }
+
+    fn word(self, at: usize) -> u16 {
+        match self.bytes.get(at..) {
+            Some([low, high, ..]) => u16::from_le_bytes([*low, *high]),
+            _ => 0,
         }
     }
-    0
-}
 
-// Causes 11 to 15 and 17 of any call on the register; 0 where it runs and is well formed.
-pub fn cause(calendar: &[u8], register: &[u8]) -> u16 {
-    rows::rows_number(calendar, register, first_live(register))
-}
-
-// 0 empty, 1 running.
-pub fn status(register: &[u8]) -> u32 {
-    byte_at(register, STATUS)
-}
-
-// How many announcements wait.
-pub fn waiting(register: &[u8]) -> u32 {
-    byte_at(register, WAITING)
-}
-
-// The day of the last start or session.
-pub fn day(register: &[u8]) -> u32 {
-    word_at(register, DAY)
-}
-
-pub fn row_count(register: &[u8]) -> u32 {
-    word_at(register, COUNT)
-}
-
-pub fn next_session(calendar: &[u8], register: &[u8]) -> u32 {
-    lookup::lookup_next_session(calendar, day(register))
-}
-
-// The first live month: its rows stand first.
-pub fn first_live(register: &[u8]) -> u32 {
-    word_at(register, ROWS + MONTH)
-}
-
-// The live month at a place from 0 to 5.
-pub fn live_month(register: &[u8], place: u32) -> u32 {
-    lookup::lookup_live_month(first_live(register), place)
-}
-
-pub fn tier(register: &[u8], month: u32) -> u32 {
-    lookup::lookup_tier_of(first_live(register), month)
-}
-
-// The announcement that was received in that order, counted from 0.
-pub fn announcement_at(register: &[u8], i: u32) -> Announcement {
-    let at = PLACES + PLACE_LENGTH * (i as usize);
-    Announcement {
-        month: word_at(register, at + MONTH),
-        price: word_at(register, at + PRICE),
+    // Causes 11 to 15 and 17 of any call on the register.
+    pub fn refusal(self) -> Result<(), Cause> {
+        rows::rows_number(self.calendar, self.bytes, self.first_live())
     }
-}
 
-// The number, counted from 0, of the announcement or the row that the byte at a place belongs to.
-pub fn announcement_with(place: u32) -> u32 {
-    let from = PLACES as u32;
-    if place < from || ROWS as u32 <= place {
-        return OUTSIDE;
+    // 0 empty, 1 running.
+    pub fn status(self) -> u8 {
+        self.byte(STATUS)
     }
-    (place - from) / PLACE_LENGTH as u32
-}
 
-pub fn row_with(place: u32) -> u32 {
-    let from = ROWS as u32;
-    if place < from {
-        return OUTSIDE;
+    // How many announcements wait.
+    pub fn waiting(self) -> u32 {
+        u32::from(self.byte(WAITING))
     }
-    (place - from) / ROW_LENGTH as u32
-}
 
-// Whether the byte at a place is one that no row uses.
-pub fn is_spare(place: u32) -> bool {
-    let from = ROWS as u32;
-    if place < from {
-        return false;
+    // The day of the last start or session.
+    pub fn day(self) -> u32 {
+        u32::from(self.word(DAY))
     }
-    (place - from) % ROW_LENGTH as u32 == SPARE as u32
-}
 
-// The place of a row, used or not, counted from 0.
-pub fn row_place(register: &[u8], i: u32) -> &[u8] {
-    let at = ROWS + ROW_LENGTH * (i as usize);
-    text::part(register, at, at + ROW_LENGTH)
-}
-
-// The rows of all months.
-pub fn all_rows(register: &[u8]) -> &[u8] {
-    text::part(
-        register,
-        ROWS,
-        ROWS + ROW_LENGTH * (row_count(register) as usize),
-    )
-}
-
-// How many rows a part of the register holds.
-pub fn count(rows: &[u8]) -> u32 {
-    let n = rows.len() / ROW_LENGTH;
-    if n <= MOST_ROWS {
-        return n as u32;
+    pub fn row_count(self) -> u32 {
+        u32::from(self.word(COUNT))
     }
-    0
-}
 
-pub fn row_at(rows: &[u8], i: u32) -> Row {
-    let at = ROW_LENGTH * (i as usize);
-    Row {
-        month: word_at(rows, at + MONTH),
-        price: word_at(rows, at + PRICE),
-        first: word_at(rows, at + FIRST_DAY),
-        origin: byte_at(rows, at + ORIGIN),
+    // The first session after the register's day; none where that is no day of the calendar.
+    pub fn next_session(self) -> Option<u32> {
+        lookup::next_session(self.calendar, self.day())
     }
-}
 
-// How many rows stand before a month's.
-fn rows_before(rows: &[u8], month: u32) -> u32 {
-    let end = count(rows);
-    let mut i: u32 = 0;
-    while i < end {
-        let row = row_at(rows, i);
-        if month <= row.month {
-            return i;
+    // The first live month, whose rows stand first; the one behind the last month where the bytes name a later one.
+    pub fn first_live(self) -> u32 {
+        u32::from(self.first_month())
+    }
+
+    fn first_month(self) -> u16
+        ensures { result ≤ month_count }
+    {
+        self.word(ROWS + MONTH).min(MONTHS)
+    }
+
+    pub fn live_months(self) -> [u32; 6] {
+        calendar::live_months(self.first_month()).map(u32::from)
+    }
+
+    pub fn tier(self, month: u32) -> Tier {
+        let month = u16::try_from(month).unwrap_or(u16::MAX);
+        calendar::tier_of(self.first_month(), month)
+    }
+
+    // The tier that a month has on the next session day.
+    pub fn next_tier(self, month: u32) -> Option<Tier> {
+        let first = lookup::first_live(self.calendar, self.next_session()?)?;
+        lookup::tier_of(first, month)
+    }
+
+    // The announcements that wait, in the order in which they were received.
+    pub fn announcements(self) -> Announcements<'a> {
+        let (places, _) = self.bytes.get(PLACES..).unwrap_or(&[]).as_chunks();
+        Records::at(places.get(..usize::from(self.byte(WAITING))).unwrap_or(&[]))
+    }
+
+    // The places of rows, used or not.
+    pub fn row_places(self) -> &'a [[u8; ROW_LENGTH]] {
+        let (places, _) = self.bytes.get(ROWS..).unwrap_or(&[]).as_chunks();
+        places
+    }
+
+    // The rows of all months.
+    pub fn rows(self) -> Rows<'a> {
+        let count = usize::from(self.word(COUNT));
+        Records::at(self.row_places().get(..count).unwrap_or(&[]))
+    }
+
+    // The row of a number, counted from 0; none from the row count on.
+    pub fn row(self, number: usize) -> Option<Row> {
+        if usize::from(self.word(COUNT)) <= number {
+            return None;
         }
-        i += 1;
+        let place = self.row_places().get(number).copied();
+        Some(Row::from(place.unwrap_or([0; ROW_LENGTH])))
     }
-    i
-}
 
-// A month's rows; none where it is not live.
-pub fn rows_of(register: &[u8], month: u32) -> &[u8] {
-    let rows = all_rows(register);
-    if OUTSIDE <= month {
-        return text::part(rows, 0, 0);
+    // A month's rows; none where it is not live.
+    pub fn rows_of(self, month: u32) -> Rows<'a> {
+        self.rows().of(month)
     }
-    let start = ROW_LENGTH * (rows_before(rows, month) as usize);
-    let end = ROW_LENGTH * (rows_before(rows, month + 1) as usize);
-    text::part(rows, start, end)
-}
-
-// The lowest and the highest price of a month's rows.
-pub fn lowest(rows: &[u8]) -> u32 {
-    let row = row_at(rows, 0);
-    row.price
-}
-
-pub fn highest(rows: &[u8]) -> u32 {
-    let n = count(rows);
-    if n == 0 {
-        return 0;
-    }
-    let row = row_at(rows, n - 1);
-    row.price
-}
-
-// How many rows have a day as their first day.
-pub fn listed_on(rows: &[u8], day: u32) -> u32 {
-    let end = count(rows);
-    let mut n: u32 = 0;
-    let mut i: u32 = 0;
-    while i < end {
-        let row = row_at(rows, i);
-        if row.first == day {
-            n += 1;
-        }
-        i += 1;
-    }
-    n
 }

@@ -1,4 +1,5 @@
 pub mod Kept
 pub mod Well
 pub mod Waiting
+pub mod Refusals
 pub mod Opens

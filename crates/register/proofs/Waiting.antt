@@ -1,16 +1,16 @@
 -- The waiting announcements: places read one by one, live months and their spans, and an announcement's causes tried downwards.
 -- Assumes nothing.
-use mathlib.Core.Path.{◌≡◌, refl, ◌∙◌}
+use mathlib.Core.Path.{◌≡◌, refl, sym, ◌∙◌}
 use mathlib.Core.Bool.{true, false, ◌||◌}
 use mathlib.Core.List.{List, [], ◌∷◌, ◌++◌}
 use Prim.Native.Nat.{ℕ, zero, suc, ◌+◌, ◌-◌, ◌*◌, ◌≤◌, ◌<◌}
-use native.Mathlib.Nat.{le_of_suc-le-suc}
 use native.Mathlib.Numerals.{add-one}
 use native.Mathlib.Omega.{arith}
 use lib.Dec.{eqb, leb, ltb}
-use lib.ListN.{length, get_or, drop}
-use lib.Seq.{drop-cons}
-use borrow.Author.Tests.{eqb-true, eq-eqb, ne_eqb, lt-ltb, le-ltb}
+use lib.ListN.{length, get_or}
+use borrow.Author.Tests.{eqb-true, eq-eqb, ne_eqb, ltb-true, lt-ltb, le-ltb}
+use Rattle.std.specs.Prelude.{Option, Some, None, ◌==◌, position}
+use Rattle.std.specs.List.{position_or_len}
 use Rattle.base.specs.Lists.{elem}
 use Rattle.base.specs.Causes.{cause, first_cause}
 use Rattle.base.proofs.Tests.{by_bool, by_le}
@@ -23,20 +23,10 @@ use Rattle.rules.proofs.NextLaws.{expired-next}
 use Rattle.layout.specs.Register.{Body, waiting_of, announce_causes, waiting_ok}
 use Rattle.base.specs.Words.{at16}
 use Rattle.layout.specs.Spans.{spans_of, places_at, span_in}
-use Rattle.register.specs.Check.{place_of, causes_at}
+use Rattle.register.specs.Check.{causes_at}
 use Rattle.base.proofs.Loops.{start_of, next_of}
 use Rattle.layout.proofs.ByteLaws.{places_none, places_some}
 use Rattle.layout.proofs.SpanLaws.{span-in}
-
--- where a month stands among some, from the i-th on
-module _ (m : ℕ) (ms : List ℕ) (i : ℕ) where
-  pub place_here : i < length ms → m ≡ get_or ms i 0 → place_of m (drop i ms) ≡ 0
-  unfolding place_of
-  place_here h e = rw (drop-cons ms i 0 h, eq-eqb m (get_or ms i 0) e)
-
-  pub place-next : i < length ms → (m ≡ get_or ms i 0 → ⊥) → place_of m (drop i ms) ≡ suc (place_of m (drop (i + 1) ms))
-  unfolding place_of
-  place-next h e = rw (drop-cons ms i 0 h, ne_eqb m (get_or ms i 0) e, add-one i)
 
 -- ---- whether a price waits for a month
 module _ (bs : List ℕ) (at n m p : ℕ) where
@@ -56,13 +46,21 @@ module _ (bs : List ℕ) (at n m p : ℕ) where
       (λ e. rw (places_some bs at n h, e, ne_eqb p (at16 bs (at + 2)) (other (eqb-true m (at16 bs at) e))))
       (λ e. rw (places_some bs at n h, e))
 
-pub waits-append : (m p : ℕ) (xs ys : List (ℕ × ℕ)) → elem p (waiting_of m (xs ++ ys)) ≡ (elem p (waiting_of m xs) || elem p (waiting_of m ys))
+waits-append : (m p : ℕ) (xs ys : List (ℕ × ℕ)) → elem p (waiting_of m (xs ++ ys)) ≡ (elem p (waiting_of m xs) || elem p (waiting_of m ys))
 unfolding waiting_of elem
 waits-append m p [] ys = refl
 waits-append m p (x ∷ xs) ys =
     by_bool (eqb m x.0)
     (λ e. by_bool (eqb p x.1) (λ g. rw (e, g)) (λ g. rw (e, g) (waits-append m p xs ys)))
     (λ e. rw e (waits-append m p xs ys))
+
+-- in the first list, or else in the second
+module _ (m p : ℕ) (xs ys : List (ℕ × ℕ)) where
+  pub waits_first : elem p (waiting_of m xs) ≡ true → elem p (waiting_of m xs) ≡ elem p (waiting_of m (xs ++ ys))
+  waits_first h = h ∙ sym (waits-append m p xs ys ∙ rw h)
+
+  pub waits_rest : elem p (waiting_of m xs) ≡ false → elem p (waiting_of m ys) ≡ elem p (waiting_of m (xs ++ ys))
+  waits_rest h = sym (waits-append m p xs ys ∙ rw h)
 
 -- one place more, at the end
 snoc : (bs : List ℕ) (i at : ℕ) → places_at bs at (suc i) ≡ places_at bs at i ++ ((at16 bs (at + 4 * i), at16 bs (at + 4 * i + 2)) ∷ [])
@@ -78,32 +76,51 @@ snoc bs (suc i) at =
 places_snoc : (bs : List ℕ) (at i : ℕ) → places_at bs at (i + 1) ≡ places_at bs at i ++ ((at16 bs (at + 4 * i), at16 bs (at + 4 * i + 2)) ∷ [])
 places_snoc bs at i = rw (add-one i) (snoc bs i at)
 
--- ---- where a month that stands in a list stands, and its span
-pub place_le : (m : ℕ) (ms : List ℕ) → place_of m ms ≤ length ms
-unfolding place_of
-place_le m [] = omega arith
-place_le m (n ∷ ns) = let h = place_le m ns in by_bool (eqb m n) (λ e. rw e (omega arith)) (λ e. rw e (omega arith))
+-- ---- where a month stands among some, and its span
+abbrev place : ℕ → List ℕ → ℕ
+place m ms = position_or_len (λ n. m == n) ms
 
-pub place-elem : (m : ℕ) (ms : List ℕ) → ltb (place_of m ms) (length ms) ≡ elem m ms
-unfolding place_of elem
+place-elem : (m : ℕ) (ms : List ℕ) → ltb (place m ms) (length ms) ≡ elem m ms
+unfolding elem
 place-elem m [] = refl
 place-elem m (n ∷ ns) =
     by_bool (eqb m n)
     (λ e. rw (e, lt-ltb 0 (suc (length ns)) (omega arith)))
     (λ e. rw e
-    (by_le (length ns) (place_of m ns)
-    (λ h. rw (← place-elem m ns, le-ltb (place_of m ns) (length ns) h, le-ltb (suc (place_of m ns)) (suc (length ns)) (omega arith)))
-    (λ h. rw (← place-elem m ns, lt-ltb (place_of m ns) (length ns) h, lt-ltb (suc (place_of m ns)) (suc (length ns)) (omega arith)))))
+    (by_le (length ns) (place m ns)
+    (λ h. rw (← place-elem m ns, le-ltb (place m ns) (length ns) h, le-ltb (1 + place m ns) (suc (length ns)) (omega arith)))
+    (λ h. rw (← place-elem m ns, lt-ltb (place m ns) (length ns) h, lt-ltb (1 + place m ns) (suc (length ns)) (omega arith)))))
 
--- a month's span stands at its place, and is that of a register where the spans are
-pub span_place : (m : ℕ) (ms : List ℕ) (ss : List (List ℕ)) → place_of m ms < length ms → place_of m ms < length ss → span_in ms ss m ≡ get_or ss (place_of m ms) []
-unfolding place_of span_in
+span_place : (m : ℕ) (ms : List ℕ) (ss : List (List ℕ)) → place m ms < length ms → place m ms < length ss → span_in ms ss m ≡ get_or ss (place m ms) []
+unfolding span_in
 span_place m [] ss h k = absurd (omega arith)
 span_place m (n ∷ ns) [] h k = absurd (omega arith)
 span_place m (n ∷ ns) (s ∷ ss) h k =
     by_bool (eqb m n)
     (λ e. rw e)
-    (λ e. rw e (span_place m ns ss (le_of_suc-le-suc (rw e at h)) (le_of_suc-le-suc (rw e at k))))
+    (λ e.
+    let h' : 1 + place m ns < suc (length ns) = rw e at h in
+    let k' : 1 + place m ns < suc (length ss) = rw e at k in
+    let f : 1 + place m ns ≡ suc (place m ns) = omega arith in
+    rw (e, f) (span_place m ns ss (omega arith) (omega arith)))
+
+-- its span stands there among six; it stands nowhere where it is not live
+abbrev pub Places : ℕ → List ℕ → Option ℕ → Type 0
+Places m live (Some i) = (i < 6) × (elem m live ≡ true) × ((spans : List (List ℕ)) → length spans ≡ 6 → span_in live spans m ≡ get_or spans i [])
+Places m live None = elem m live ≡ false
+
+pub places : (m : ℕ) (ms : List ℕ) → length ms ≡ 6 → (o : Option ℕ) → o ≡ position (λ n. m == n) ms → Places m ms o
+places m ms six None h =
+    sym (place-elem m ms)
+    ∙ by_bool (ltb (place m ms) (length ms)) (λ e. let z : None ≡ Some (place m ms) = rw e at h in absurd (cc)) (λ e. e)
+places m ms six (Some i) h =
+    by_bool (ltb (place m ms) (length ms))
+    (λ e.
+    let z : Some i ≡ Some (place m ms) = rw e at h in
+    let q : i ≡ place m ms = cc in
+    let l = ltb-true (place m ms) (length ms) e in
+    (omega arith, sym (place-elem m ms) ∙ e, λ ss k. rw q (span_place m ms ss l (omega arith))))
+    (λ e. let z : Some i ≡ None = rw e at h in absurd (cc))
 
 -- ---- the causes by numbers are the causes on the register
 module _ (cal : List ℕ) (passes : Passes cal) (b : Body) (live : first_at cal b.at ≤ last_first_month) (others : List (ℕ × ℕ)) (m p : ℕ) where

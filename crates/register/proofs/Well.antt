@@ -1,15 +1,15 @@
 -- A register stands where the scan of its bytes says so, and its spans are those that the scan finds.
 -- Assumes nothing.
 use mathlib.Core.Path.{◌≡◌, refl, sym, ap, ◌∙◌}
-use mathlib.Core.Bool.{true}
+use mathlib.Core.Bool.{true, false}
 use mathlib.Core.List.{List, [], ◌∷◌, ◌++◌}
 use mathlib.Core.Logic.{⊎_elim}
+use Rattle.std.specs.Prelude.{Some}
+use Rattle.std.proofs.lemmas.Option.{none-some, same_Some}
 use Prim.Native.Nat.{ℕ, zero, suc, ◌+◌, ◌-◌, ◌*◌, ◌≤◌, ◌<◌}
-use native.Mathlib.Nat.{add-zero}
 use native.Mathlib.Omega.{arith}
 use lib.Dec.{leb}
 use lib.ListN.{length, get_or, drop, replicate}
-use lib.Seq.{drop-drop, get_or-drop}
 use borrow.Author.Tests.{le-leb, leb-true}
 use Rattle.base.specs.Lists.{elem, select, within, least, greatest}
 use Rattle.base.proofs.Tests.{by_bool, and_l, and_r}
@@ -22,47 +22,38 @@ use Rattle.grid.proofs.Prices.{price_line}
 use Rattle.rules.specs.Rules.{last_first_month}
 use Rattle.rules.specs.Rulebook.{rules, first_at, tier_at}
 use Rattle.rules.proofs.RulebookLaws.{first_is, first-day}
-use Rattle.layout.specs.Rows.{new_entry, Row, row, rows_of, prices_of, entry_ok}
+use Rattle.layout.specs.Rows.{new_entry, Row, rows_of, prices_of, entry_ok}
 use Rattle.layout.specs.Register.{most_waiting, Body, span_low, span_high, same_keys, non_empty, entries_ok, listed, waiting_ok}
 use Rattle.base.specs.Words.{at16}
 use Rattle.layout.specs.Bytes.{read_rows, moment_of, body_of, rows_bytes, register_length, rows_from, rows_length}
-use Rattle.layout.specs.Spans.{no_spans, runs_well, spans_of, standing_spans}
+use Rattle.layout.specs.Spans.{runs_well, spans_of}
+use Rattle.base.specs.declared.causes.Cause.TheVariants.{RegisterForm}
 use Rattle.register.specs.Check.{Keeps}
-use Rattle.scan.specs.Scan.{row_at, rows_at, ladder_spans}
+use Rattle.scan.specs.Scan.{scanned, rows_at, ladder_spans}
 use Rattle.layout.proofs.RowLaws.{rows_of_same, all_some}
 use Rattle.layout.proofs.ByteLaws.{places_count}
-use Rattle.layout.proofs.Running.{Running, runs, runs_i}
+use Rattle.layout.proofs.Running.{Running, runs}
 use Rattle.layout.proofs.Held.{ladder_of, Held, there, least-held, greatest-held, live_apart, held}
-use Rattle.base.proofs.WordLaws.{at16-drop}
 use Rattle.register.proofs.Kept.{EndsZero, layout_is, kept, rows-part}
 use Rattle.scan.proofs.Found.{blank, LaddersFound, find_ladders, held_found, spans-held}
 
 -- ---- the rows as they are scanned are the rows, where the byte behind each origin is zero
-module _ (bs : List ℕ) where
-  read_some : (at n : ℕ) → read_rows (suc n) (drop at bs)
-      ≡ row (at16 bs at) (at16 bs (at + 2)) (record { first = at16 bs (at + 4); origin = get_or bs (at + 6) 0 }) ∷ read_rows n (drop (at + 8) bs)
-  unfolding read_rows
-  read_some at n = rw (at16-drop bs at 0, at16-drop bs at 2, at16-drop bs at 4, get_or-drop at bs 6 0, drop-drop 8 at bs, add-zero at)
+origin_is : (bs : List ℕ) → at16 bs 6 ≡ get_or bs 6 0 + 256 * get_or bs 7 0
+unfolding at16
+origin_is bs = refl
 
-  origin_is : (at : ℕ) → at16 bs (at + 6) ≡ get_or bs (at + 6) 0 + 256 * get_or (drop at bs) 7 0
-  unfolding at16
-  origin_is at = let e : at + 7 ≡ suc (at + 6) = omega arith in rw (get_or-drop at bs 7 0, e)
+rows_same : (n : ℕ) (bs : List ℕ) → EndsZero n bs → rows_at n bs ≡ read_rows n bs
+unfolding rows_at read_rows
+rows_same zero bs z = refl
+rows_same (suc n) bs z = let o : at16 bs 6 ≡ get_or bs 6 0 = omega (arith, origin_is bs) in rw (o, rows_same n (drop 8 bs) z.1)
 
-  rows_same : (n at : ℕ) → EndsZero n (drop at bs) → rows_at bs at n ≡ read_rows n (drop at bs)
-  unfolding rows_at read_rows
-  rows_same zero at z = refl
-  rows_same (suc n) at z =
-      let o : at16 bs (at + 6) ≡ get_or bs (at + 6) 0 = omega (arith, origin_is at) in
-      rw (o, rows_same n (at + 8) (rw (drop-drop 8 at bs) at z.1)) (sym (read_some at n))
-
-  ends_zero : (day n at : ℕ) → entries_ok day (rows_at bs at n) ≡ true → EndsZero n (drop at bs)
-  unfolding rows_at entries_ok entry_ok
-  ends_zero day zero at k = tt
-  ends_zero day (suc n) at k =
-      let e = and_l (entry_ok day (row_at bs at).entry) _ k in
-      let o = within_r 1 5 (at16 bs (at + 6)) (and_r (leb (at16 bs (at + 4)) day) _ e) in
-      let z : get_or (drop at bs) 7 0 ≡ 0 = omega (arith, origin_is at) in
-      (z, rw (drop-drop 8 at bs) (ends_zero day n (at + 8) (and_r (entry_ok day (row_at bs at).entry) _ k)))
+ends_zero : (day n : ℕ) (bs : List ℕ) → entries_ok day (rows_at n bs) ≡ true → EndsZero n bs
+unfolding rows_at entries_ok entry_ok
+ends_zero day zero bs k = tt
+ends_zero day (suc n) bs k =
+    let e = and_l (entry_ok day (scanned bs).entry) _ k in
+    let o = within_r 1 5 (at16 bs 6) (and_r (leb (at16 bs 4) day) _ e) in
+    (omega (arith, origin_is bs), ends_zero day n (drop 8 bs) (and_r (entry_ok day (scanned bs).entry) _ k))
 
 -- its first live month, as the calendar gives it on the day that stands in the bytes
 pub first_read : (cal bs : List ℕ) {first day : ℕ} → day ≡ at16 bs 2 → first ≡ first_live (expiry_of cal) day → first ≡ first_at cal (moment_of bs)
@@ -89,11 +80,11 @@ module _ (cal bs : List ℕ) (l : length bs ≡ register_length) (r : Running ca
   unfolding body_of
   run-held = held cal (body_of bs) r.well
 
-  pub run_spans : let f = first_at cal (moment_of bs) in ladder_spans (at16 bs 2) f [] (live_months f) (rows_at bs rows_from (at16 bs 4)) ≡ spans_of (body_of bs) (live_months f)
+  pub run_spans : let f = first_at cal (moment_of bs) in ladder_spans (at16 bs 2) f [] (live_months f) (rows_at (at16 bs 4) (drop rows_from bs)) ≡ Some (spans_of (body_of bs) (live_months f))
   unfolding body_of moment_of
   run_spans =
       let f : ℕ = first_at cal (moment_of bs) in
-      ap (ladder_spans (at16 bs 2) f [] (live_months f)) (rows_same bs (at16 bs 4) rows_from (kept bs l r.written).1)
+      ap (ladder_spans (at16 bs 2) f [] (live_months f)) (rows_same (at16 bs 4) (drop rows_from bs) (kept bs l r.written).1)
       ∙ spans-held (at16 bs 2) f (body_of bs) run-held r.well.sound.entries
 
   -- behind the places stand the bytes of its rows, then zeros
@@ -107,27 +98,26 @@ first-low f b h z =
     let e : elem f (live_months f) ≡ true = elem-here f _ in
     omega (arith, least-held f b.rows h f e, (h.low-on f e).from, price_line (h.low f))
 
--- ---- and where a scan finds six spans, the first of which has a price
+-- ---- and where a scan finds six spans
 pub record Scanned (cal bs : List ℕ) (spans : List (List ℕ)) : Type 0 where
   pub keeps : Keeps bs
   pub day-session : session cal (at16 bs 2) ≡ true
   pub first_le : first_at cal (moment_of bs) ≤ last_first_month
-  pub spans_is : spans ≡ ladder_spans (at16 bs 2) (first_at cal (moment_of bs)) [] (live_months (first_at cal (moment_of bs))) (rows_at bs rows_from (at16 bs 4))
-  pub some : get_or (get_or spans 0 []) 0 0 ≡ 0 → ⊥
+  pub spans_is : Some spans ≡ ladder_spans (at16 bs 2) (first_at cal (moment_of bs)) [] (live_months (first_at cal (moment_of bs))) (rows_at (at16 bs 4) (drop rows_from bs))
 
 module _ (cal bs : List ℕ) (l : length bs ≡ register_length) (bytes : (i : ℕ) → get_or bs i 0 < 256) (spans : List (List ℕ)) (r : Scanned cal bs spans) where
-  scan_found : LaddersFound (at16 bs 2) (first_at cal (moment_of bs)) (live_months (first_at cal (moment_of bs))) (rows_at bs rows_from (at16 bs 4))
+  scan_found : LaddersFound (at16 bs 2) (first_at cal (moment_of bs)) (live_months (first_at cal (moment_of bs))) (rows_at (at16 bs 4) (drop rows_from bs))
   scan_found =
       let f : ℕ = first_at cal (moment_of bs) in
-      ⊎_elim (λ z. absurd (r.some (ap (λ (x : List (List ℕ)). get_or (get_or x 0 []) 0 0) (r.spans_is ∙ z)))) (λ w. w)
-      (find_ladders (at16 bs 2) f [] (live_months f) (rows_at bs rows_from (at16 bs 4)) (live_apart f))
+      ⊎_elim (λ z. absurd (none-some spans (sym (r.spans_is ∙ z)))) (λ w. w)
+      (find_ladders (at16 bs 2) f [] (live_months f) (rows_at (at16 bs 4) (drop rows_from bs)) (live_apart f))
 
   ends : EndsZero (at16 bs 4) (drop rows_from bs)
-  ends = ends_zero bs (at16 bs 2) (at16 bs 4) rows_from scan_found.entries
+  ends = ends_zero (at16 bs 2) (at16 bs 4) (drop rows_from bs) scan_found.entries
 
-  rows_are : rows_at bs rows_from (at16 bs 4) ≡ (body_of bs).rows
+  rows_are : rows_at (at16 bs 4) (drop rows_from bs) ≡ (body_of bs).rows
   unfolding body_of
-  rows_are = rows_same bs (at16 bs 4) rows_from ends
+  rows_are = rows_same (at16 bs 4) (drop rows_from bs) ends
 
   found : LaddersFound (at16 bs 2) (first_at cal (moment_of bs)) (live_months (first_at cal (moment_of bs))) (body_of bs).rows
   found = rw rows_are at scan_found
@@ -136,7 +126,7 @@ module _ (cal bs : List ℕ) (l : length bs ≡ register_length) (bytes : (i : �
   scan-held = held_found (at16 bs 2) (first_at cal (moment_of bs)) (body_of bs).rows found
 
   pub spans_are : spans ≡ spans_of (body_of bs) (live_months (first_at cal (moment_of bs)))
-  spans_are = r.spans_is ∙ rw rows_are (spans-held (at16 bs 2) (first_at cal (moment_of bs)) (body_of bs) scan-held found.entries)
+  spans_are = same_Some spans _ (r.spans_is ∙ rw rows_are (spans-held (at16 bs 2) (first_at cal (moment_of bs)) (body_of bs) scan-held found.entries))
 
   keys_are : let b = body_of bs in let R = rules cal in
       same_keys b.rows (rows_of (R.live b.at) (listed R b.at (span_low b) (span_high b)) (λ m p. new_entry 0 0)) ≡ true
@@ -177,18 +167,5 @@ module _ (cal bs : List ℕ) (l : length bs ≡ register_length) (bytes : (i : �
 
 -- ---- the answers
 module _ (cal bs : List ℕ) where
-  pub none_stand : (Running cal bs → ⊥) → no_spans ≡ standing_spans cal bs
-  unfolding standing_spans
-  none_stand never = by_bool (runs_well cal bs) (λ h. absurd (never (runs cal bs h))) (λ h. rw h)
-
-  pub all_stand : Running cal bs → spans_of (body_of bs) (live_months (first_at cal (moment_of bs))) ≡ standing_spans cal bs
-  unfolding standing_spans
-  all_stand r = rw (runs_i cal bs r)
-
-  -- so the first month's lowest price tells whether it stands
-  pub standing_none : length bs ≡ register_length → get_or (get_or (standing_spans cal bs) 0 []) 0 0 ≡ 0 → Running cal bs → ⊥
-  standing_none l z r = first-low (first_at cal (moment_of bs)) (body_of bs) (run-held cal bs l r) (rw (← all_stand r) at z)
-
-  pub standing_some : (get_or (get_or (standing_spans cal bs) 0 []) 0 0 ≡ 0 → ⊥) → Running cal bs
-  unfolding standing_spans
-  standing_some n = by_bool (runs_well cal bs) (λ h. runs cal bs h) (λ h. absurd (n (rw h)))
+  pub none_stand : (Running cal bs → ⊥) → (runs_well cal bs ≡ false) × (RegisterForm ≡ RegisterForm)
+  none_stand never = (by_bool (runs_well cal bs) (λ h. absurd (never (runs cal bs h))) (λ h. h), refl)

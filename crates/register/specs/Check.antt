@@ -1,16 +1,19 @@
--- How the code checks a register's bytes and how every call opens. Contracts of leaves cite this file.
+-- How the code checks a register's bytes. Contracts of leaves cite this file.
 -- Assumes nothing.
-use Rattle.std.specs.Prelude.{◌≡◌, Bool, true, cond, not, ◌||◌, List, [], ◌∷◌, ℕ, suc, ◌+◌, ◌-◌, ◌*◌, ◌≤◌, eqb, ltb, length, get_or, take, drop}
+use Rattle.std.specs.Prelude.{◌≡◌, Bool, true, false, not, ◌||◌, List, [], ◌∷◌, ℕ, ◌+◌, ◌-◌, ◌*◌, ◌≤◌, Result, Ok, Err, ltb, get_or, take, drop}
 use Rattle.base.specs.Words.{at16}
 use Rattle.base.specs.Lists.{elem, within}
 use Rattle.base.specs.Causes.{cause, first_cause}
-use Rattle.calendar.specs.Calendar.{calendar_cause, first_lacking}
+use Rattle.base.specs.declared.causes.Cause.{Cause}
+use Rattle.base.specs.declared.causes.Cause.TheVariants.{RegisterForm}
 use Rattle.calendar.specs.Live.{live_months, tier_of}
-use Rattle.calendar.specs.declared.Checked.{Checked}
 use Rattle.grid.specs.Grid.{grid_of}
 use Rattle.rules.specs.Rules.{last_first_month}
-use Rattle.layout.specs.Register.{most_waiting}
-use Rattle.layout.specs.Bytes.{register_length, places_from, rows_from, most_rows, all_zero}
+use Rattle.rules.specs.Rulebook.{first_at}
+use Rattle.layout.specs.Register.{most_waiting, running}
+use Rattle.layout.specs.Bytes.{places_from, rows_from, most_rows, all_zero, moment_of, body_of}
+use Rattle.layout.specs.Opening.{Reads}
+use Rattle.layout.specs.Spans.{runs_well, spans_of}
 
 -- a test that tells whether something holds
 pub record Tells (test : Bool) (Holds : Type 0) : Type 0 where
@@ -27,11 +30,6 @@ pub record Keeps (bs : List ℕ) : Type 0 where
   pub places : all_zero (take (rows_from - (places_from + 4 * get_or bs 1 0)) (drop (places_from + 4 * get_or bs 1 0) bs)) ≡ true
   pub behind : all_zero (drop (rows_from + 8 * at16 bs 4) bs) ≡ true
 
--- where x stands in a list, counted from 0; the list's length where it does not
-unfoldable pub place_of : ℕ → List ℕ → ℕ
-place_of x [] = 0
-place_of x (y ∷ ys) = cond (eqb x y) 0 (suc (place_of x ys))
-
 -- causes 20 and 22 to 24 of an announcement, by the numbers that decide them: the first live month of the day and of the next session, the
 -- month's span, and whether the price waits for the month already. A live month that expires by the day is not live at the next session
 unfoldable pub causes_at : ℕ → ℕ → List ℕ → Bool → ℕ → ℕ → ℕ
@@ -43,18 +41,13 @@ causes_at first next span waits m p =
     ∷ cause (within (get_or span 0 0) (get_or span 1 0) p || waits) 24
     ∷ [])
 
--- ---- how every call opens: of the causes 11 to 15 and 17, those that show without a look at the rows
-unfoldable pub opening_cause : List ℕ → List ℕ → ℕ
-opening_cause calendar bs =
-    first_cause
-    (calendar_cause calendar
-    ∷ cause (not (eqb (length bs) register_length)) 14
-    ∷ cause (eqb (get_or bs 0 0) 0) (cond (all_zero bs) 17 15)
-    ∷ [])
+-- a register that runs and is well formed, read, with its six spans
+pub record Runs (calendar bs : List ℕ) (spans : List (List ℕ)) : Type 0 where
+  pub reads : Reads calendar bs (running (body_of bs))
+  pub well : runs_well calendar bs ≡ true
+  pub spans_are : spans ≡ spans_of (body_of bs) (live_months (first_at calendar (moment_of bs)))
 
--- that number, and beside 13 the month
-unfoldable pub opening_of : List ℕ → List ℕ → Checked
-opening_of calendar bs = record {
-  number = opening_cause calendar bs;
-  month = cond (eqb (opening_cause calendar bs) 13) (first_lacking calendar) 0;
-}
+-- any other has no spans, which is cause 15
+abbrev pub Stands : List ℕ → List ℕ → Result (List (List ℕ)) Cause → Type 0
+Stands calendar bs (Ok spans) = Runs calendar bs spans
+Stands calendar bs (Err why) = (runs_well calendar bs ≡ false) × (why ≡ RegisterForm)

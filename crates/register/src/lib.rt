@@ -1,20 +1,22 @@
 // The check of a register, and how every call opens.
 #![tactic(auto)]
 
-ghost use Rattle.std.specs.Prelude.{◌≡◌, [], ◌++◌, ◌+◌, ◌-◌, ◌*◌, ◌≤◌, ◌<◌, length, get_or};
+ghost use Rattle.std.specs.Prelude.{◌≡◌, position, ◌==◌, [], ◌++◌, ◌+◌, ◌-◌, ◌*◌, ◌≤◌, ◌<◌, length, get_or};
 ghost use Rattle.base.specs.Lists.{elem};
 ghost use Rattle.dates.specs.Months.{month_count, day_count};
+ghost use Rattle.base.specs.Numbers.{number_in};
 ghost use Rattle.calendar.specs.Calendar.{Passes};
 ghost use Rattle.calendar.specs.Live.{live_months};
 ghost use Rattle.rules.specs.Rules.{next, last_first_month};
 ghost use Rattle.rules.specs.Rulebook.{first_at, rules};
 ghost use Rattle.layout.specs.Register.{most_waiting, waiting_of, waiting_ok};
 ghost use Rattle.layout.specs.Bytes.{register_length, places_from, moment_of, body_of};
-ghost use Rattle.layout.specs.Spans.{spans_of, standing_spans, places_at, span_in};
-ghost use Rattle.register.specs.Check.{Tells, Keeps, place_of, causes_at, opening_of};
+ghost use Rattle.layout.specs.Spans.{spans_of, places_at, span_in};
+ghost use Rattle.register.specs.Check.{Tells, Keeps, causes_at, Stands};
+ghost use Rattle.register.specs.Opens.{Opens};
 
-use base::{causes, word};
-use calendar::Checked;
+use base::{Cause, word};
+use calendar::Calendar;
 use dates::{DAYS, MONTHS};
 use layout::{
     COUNT, DAY, MOST_ROWS, MOST_WAITING, PLACE_LENGTH, PLACES, PRICE, REGISTER_LENGTH, ROW_LENGTH,
@@ -52,20 +54,13 @@ fn keeps_layout(register: &[u8]) -> bool
     layout::is_zero(&register[behind..])
 }
 
-// Where a month stands among the six live months, counted from 0; 6 where it is not live.
-fn live_place(first: u16, month: u32) -> usize
+// Where a month stands among the six live months; nowhere where it is not live.
+fn live_place(first: u16, month: u32) -> Option<usize>
     requires { first ≤ last_first_month }
-    ensures { result ≡ place_of month (live_months first) }
+    ensures { result ≡ position (λ live. month == live) (live_months first) }
 {
     let months = calendar::live_months(first);
-    let mut i: usize = 0;
-    while i < 6 {
-        if month == months[i] as u32 {
-            return i;
-        }
-        i += 1;
-    }
-    i
+    months.iter().position(|live| month == u32::from(*live))
 }
 
 // The first live month of the next session; 1,200 where there is none.
@@ -75,13 +70,13 @@ pub fn next_first(calendar: &[u8], register: &[u8]) -> u16
 {
     let next = calendar::next_session(calendar, word(register, DAY));
     if next < DAYS {
-        calendar::first_live(calendar, next)
+        calendar::first_live(Calendar { bytes: calendar }, next)
     } else {
         MONTHS
     }
 }
 
-// Causes 20 and 22 to 24 of an announcement, tried downwards; 0 where none holds. `next` is the first live month of the next session.
+// Causes 20 and 22 to 24 of an announcement, tried downwards. `next` is the first live month of the next session.
 pub fn refusal(
     first: u16,
     next: u16,
@@ -89,36 +84,32 @@ pub fn refusal(
     waits: bool,
     month: u32,
     price: u32,
-) -> u16
+) -> Result<(), Cause>
     requires { (first ≤ last_first_month) × (next ≤ month_count) }
-    ensures { result ≡ causes_at first next (span_in (live_months first) spans month) waits month price }
+    ensures { number_in result ≡ causes_at first next (span_in (live_months first) spans month) waits month price }
 {
     if LAST_FIRST_MONTH < next {
-        return causes::TOO_LATE;
+        return Err(Cause::TooLate);
     }
-    let i = live_place(first, month);
-    if i == 6 {
-        return causes::ANNOUNCE_MONTH;
-    }
+    let Some(i) = live_place(first, month) else {
+        return Err(Cause::AnnounceMonth);
+    };
     let live = month as u16;
     if live < next {
-        return causes::ANNOUNCE_MONTH;
+        return Err(Cause::AnnounceMonth);
     }
     if !grid::on_grid(calendar::tier_of(next, live), price) {
-        return causes::ANNOUNCE_PRICE;
+        return Err(Cause::AnnouncePrice);
     }
     if waits {
-        return causes::ANNOUNCE_KNOWN;
+        return Err(Cause::AnnounceKnown);
     }
     let strike = price as u16;
-    let span = spans[i];
-    if strike < span[0] {
-        return 0;
+    let [low, high] = spans[i];
+    if low <= strike && strike <= high {
+        return Err(Cause::AnnounceKnown);
     }
-    if span[1] < strike {
-        return 0;
-    }
-    causes::ANNOUNCE_KNOWN
+    Ok(())
 }
 
 // Whether a price waits for a month in some of the places.
@@ -126,15 +117,13 @@ pub fn waits(register: &[u8], at: usize, places: usize, month: u32, price: u32) 
     requires { at + 4 * places ≤ length register.now }
     ensures { result ≡ elem price (waiting_of month (places_at register.now at places)) }
 {
-    let mut i: usize = 0;
-    while i < places {
+    for i in 0..places {
         let place = at + PLACE_LENGTH * i;
-        if month == word(register, place) as u32 {
-            if price == word(register, place + PRICE) as u32 {
-                return true;
-            }
+        if month == u32::from(word(register, place))
+            && price == u32::from(word(register, place + PRICE))
+        {
+            return true;
         }
-        i += 1;
     }
     false
 }
@@ -144,16 +133,9 @@ fn waits_beside(register: &[u8], places: usize, i: usize, month: u32, price: u32
     requires { (i < places) × (places_from + 4 * places ≤ length register.now) }
     ensures { result ≡ elem price (waiting_of month (places_at register.now places_from i ++ places_at register.now (places_from + 4 * i + 4) (places - i - 1))) }
 {
-    if waits(register, PLACES, i, month, price) {
-        return true;
-    }
-    waits(
-        register,
-        PLACES + PLACE_LENGTH * i + PLACE_LENGTH,
-        places - i - 1,
-        month,
-        price,
-    )
+    let behind = PLACES + PLACE_LENGTH * i + PLACE_LENGTH;
+    waits(register, PLACES, i, month, price)
+        || waits(register, behind, places - i - 1, month, price)
 }
 
 // Whether no waiting announcement would be refused beside the others, where the six spans are those of the register's rows.
@@ -164,84 +146,71 @@ fn waiting_stands(calendar: &[u8], register: &[u8], first: u16, spans: [[u16; 2]
 {
     let next = next_first(calendar, register);
     let places = register[WAITING] as usize;
-    let mut i: usize = 0;
-    while i < places {
+    for i in 0..places {
         let at = PLACES + PLACE_LENGTH * i;
-        let month = word(register, at) as u32;
-        let price = word(register, at + PRICE) as u32;
+        let month = u32::from(word(register, at));
+        let price = u32::from(word(register, at + PRICE));
         let beside = waits_beside(register, places, i, month, price);
-        if refusal(first, next, spans, beside, month, price) != 0 {
+        if refusal(first, next, spans, beside, month, price).is_err() {
             return false;
         }
-        i += 1;
     }
     true
 }
 
-// The six spans of a register that runs and is well formed; zeros for any other.
-pub fn standing(calendar: &[u8], register: &[u8]) -> [[u16; 2]; 6]
+// The six spans of a register that runs and is well formed.
+fn standing(calendar: &[u8], register: &[u8]) -> Result<[[u16; 2]; 6], Cause>
     requires { Passes calendar.now × (length register.now ≡ register_length) }
-    ensures { result ≡ standing_spans calendar.now register.now }
+    ensures { Stands calendar.now register.now result }
 {
-    let none = [[0u16; 2]; 6];
     if !keeps_layout(register) {
-        return none;
+        return Err(Cause::RegisterForm);
     }
     let day = word(register, DAY);
     if DAYS <= day {
-        return none;
+        return Err(Cause::RegisterForm);
     }
     if !calendar::has_session(calendar, day) {
-        return none;
+        return Err(Cause::RegisterForm);
     }
-    let first = calendar::first_live(calendar, day);
+    let first = calendar::first_live(Calendar { bytes: calendar }, day);
     if LAST_FIRST_MONTH < first {
-        return none;
+        return Err(Cause::RegisterForm);
     }
-    let rows = word(register, COUNT) as usize;
-    let spans = scan::ladders(register, rows, day, first);
-    let span = spans[0];
-    if span[0] == 0 {
-        return none;
-    }
+    let rows = layout::rows(register, word(register, COUNT) as usize);
+    let Some(spans) = scan::ladders(rows, day, first) else {
+        return Err(Cause::RegisterForm);
+    };
     if register[WAITING] == 0 {
-        return spans;
+        return Ok(spans);
     }
     if !waiting_stands(calendar, register, first, spans) {
-        return none;
+        return Err(Cause::RegisterForm);
     }
-    spans
+    Ok(spans)
 }
 
-// How every call opens: causes 11 to 14, 17, and 15 where the status is 0 and another byte is not; beside 13 the month.
-pub fn opening(calendar: &[u8], register: &[u8]) -> Checked
-    ensures { result ≡ opening_of calendar.now register.now }
+// A register that a call can be made on: empty, or one that runs and is well formed, with its six spans.
+#[derive(Clone, Copy)]
+pub enum Opened {
+    Empty,
+    Running([[u16; 2]; 6]),
+}
+
+// How every call opens: causes 11 to 15.
+pub fn open(calendar: &[u8], register: &[u8]) -> Result<Opened, Cause>
+    ensures { Opens calendar.now register.now result }
 {
-    let checked = passing::check(calendar);
-    if checked.number != 0 {
-        return checked;
-    }
+    passing::check(calendar)?;
     if register.len() != REGISTER_LENGTH {
-        return Checked {
-            number: causes::REGISTER_LENGTH,
-            month: 0,
-        };
+        return Err(Cause::RegisterLength);
     }
     if register[STATUS] != 0 {
-        return Checked {
-            number: 0,
-            month: 0,
-        };
+        return Ok(Opened::Running(standing(calendar, register)?));
     }
     if layout::is_zero(register) {
-        Checked {
-            number: causes::EMPTY,
-            month: 0,
-        }
+        Ok(Opened::Empty)
     } else {
-        Checked {
-            number: causes::REGISTER_FORM,
-            month: 0,
-        }
+        Err(Cause::RegisterForm)
     }
 }

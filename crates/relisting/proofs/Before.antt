@@ -1,13 +1,13 @@
 -- What the register before a session gives: its rows as they stand in the bytes, and prices announced for the next grid.
 -- Assumes nothing.
-use mathlib.Core.Path.{◌≡◌, refl, sym, ap, ◌∙◌}
+use mathlib.Core.Path.{◌≡◌, ap, ◌∙◌}
 use mathlib.Core.Bool.{true, false≢true}
-use mathlib.Core.List.{List, [], ◌∷◌, ◌++◌, append_assoc}
-use Prim.Native.Nat.{ℕ, ◌+◌, ◌*◌, ◌/◌, ◌%◌}
+use mathlib.Core.List.{List, [], ◌∷◌, ◌++◌}
+use Prim.Native.Nat.{ℕ}
 use native.Mathlib.Omega.{arith}
 use lib.Dec.{eqb}
-use lib.ListN.{length, get_or, take, drop}
-use lib.Seq.{drop_at, take_at, drop-drop}
+use lib.ListN.{length, get_or, drop}
+use lib.Seq.{drop_at}
 use borrow.Author.Tests.{eqb-true, not-false}
 use Rattle.base.specs.Lists.{elem}
 use Rattle.base.specs.Causes.{first_cause}
@@ -17,38 +17,13 @@ use Rattle.calendar.specs.Live.{tier_of}
 use Rattle.grid.specs.Grid.{grid_of}
 use Rattle.rules.specs.Rules.{Rules, next}
 use Rattle.rules.specs.Rulebook.{first_at, tier_at, rules}
-use Rattle.layout.specs.Rows.{Row}
 use Rattle.layout.specs.Register.{Body, waiting_of, announce_causes, waiting_ok}
 use Rattle.layout.specs.Bytes.{register_length, places_bytes, rows_bytes, padded, body_bytes, read_places, read_rows, moment_of, body_of, rows_from, rows_length, places_length}
 use Rattle.base.specs.Words.{two, at16}
-use Rattle.layout.proofs.ByteLaws.{places-length, rows-length, padded-length, places_count, rows-count, rows_append}
+use Rattle.layout.proofs.ByteLaws.{places-length, padded-length, places_count, rows-count}
 use Rattle.layout.proofs.Held.{Held, Facts}
 use Rattle.layout.proofs.Running.{Running}
 use Rattle.register.proofs.Well.{run_keeps, run-held}
-use Rattle.ladders.specs.Writing.{rows_in}
-
--- ---- bytes of rows read back
-word_back : (n : ℕ) → n % 256 + 256 * (n / 256) ≡ n
-word_back n = omega arith
-
-rows-read : (rs : List Row) → read_rows (length rs) (rows_bytes rs) ≡ rs
-unfolding read_rows rows_bytes at16 two
-rows-read [] = refl
-rows-read (r ∷ rs) = rw (word_back r.month, word_back r.price, word_back r.entry.first, rows-read rs)
-
--- the rows behind the first ones, as they stand in the bytes
-pub rows_behind : (xs ys : List Row) (bs z : List ℕ) (a n : ℕ) → drop a bs ≡ rows_bytes (xs ++ ys) ++ z → n ≡ length ys
-    → rows_in (take (8 * n) (drop (a + 8 * length xs) bs)) ≡ ys
-unfolding rows_in
-rows_behind xs ys bs z a n h e =
-    let l : 8 * length xs ≡ length (rows_bytes xs) = sym (rows-length xs) in
-    let k = rows-length ys in
-    let d : drop (a + 8 * length xs) bs ≡ rows_bytes ys ++ z =
-    sym (drop-drop (8 * length xs) a bs)
-    ∙ rw (h, rows_append xs ys, append_assoc) (drop_at (rows_bytes xs) (rows_bytes ys ++ z) (8 * length xs) (sym l)) in
-    let t : take (8 * n) (drop (a + 8 * length xs) bs) ≡ rows_bytes ys = rw d (take_at (rows_bytes ys) z (8 * n) (omega arith)) in
-    let q : length (rows_bytes ys) / 8 ≡ length ys = omega arith in
-    rw (t, q) (rows-read ys)
 
 -- ---- what waits lies on the grid of the next session
 waits-on : (R : Rules) (b : Body) (past ws : List (ℕ × ℕ)) → waiting_ok R b past ws ≡ true

@@ -4,10 +4,11 @@ use mathlib.Core.Path.{◌≡◌, refl, sym, ap, ◌∙◌}
 use mathlib.Core.Bool.{Bool, true, false, cond, not, ◌&&◌}
 use mathlib.Core.Option.{none, some}
 use mathlib.Core.List.{List, [], ◌∷◌, ◌++◌}
-use Prim.Native.Nat.{ℕ, suc, ◌+◌, ◌-◌, ◌*◌, ◌≤◌, ◌<◌, min, max}
+use Prim.Native.Nat.{ℕ, suc, ◌+◌, ◌-◌, ◌≤◌, ◌<◌, min, max}
 use native.Mathlib.Omega.{arith}
 use lib.Dec.{eqb}
-use lib.ListN.{length, get_or, take, drop, length-append}
+use lib.ListN.{length, get_or, drop, length-append}
+use lib.Seq.{drop_at}
 use borrow.Author.Tests.{eq-eqb, ne_eqb}
 use Rattle.base.specs.Lists.{elem, within}
 use Rattle.base.proofs.Tests.{by_bool, by_le, and_l, and_r, and_i}
@@ -30,7 +31,12 @@ use Rattle.rules.proofs.RulebookLaws.{laws, grid_rises, live_rises, first_later}
 use Rattle.rules.proofs.NextLaws.{moves_by_one}
 use Rattle.layout.specs.Rows.{Entry, new_entry, Row, ladder, rows_of, find}
 use Rattle.layout.specs.Register.{Body, running, waiting_of, span_low, span_high, listed}
-use Rattle.layout.specs.Bytes.{register_length, most_rows, rows_bytes, padded, bytes_of, moment_of, rows_from, rows_length}
+use Rattle.layout.specs.Origins.{origin_code}
+use Rattle.layout.specs.declared.Origin.{Origin}
+use Rattle.layout.specs.declared.Origin.TheVariants.{Live}
+use Rattle.grid.specs.declared.Strikes.{Strikes}
+use Rattle.std.specs.Prelude.{Some}
+use Rattle.layout.specs.Bytes.{register_length, most_rows, rows_bytes, padded, read_rows, bytes_of, moment_of, rows_from, rows_length}
 use Rattle.base.specs.Words.{at16}
 use Rattle.layout.specs.Spans.{spans_of, span_in}
 use Rattle.layout.proofs.RowLaws.{rows_of_same, ladder-length}
@@ -39,23 +45,23 @@ use Rattle.register.proofs.Well.{run-first}
 use Rattle.layout.proofs.SpanLaws.{span-in}
 use Rattle.layout.proofs.Held.{Held, ladder_of, found, least-held, greatest-held}
 use Rattle.ladders.specs.declared.Plan.{Plan}
-use Rattle.ladders.specs.Writing.{rows_in, prices_in, added_origin, ladders_from, plan_at, Spanned, Ready}
-use Rattle.spans.specs.Spans.{held_spans, close_pair, close_spans, announced_pair, new_pair, new_spans, same_spans}
+use Rattle.ladders.specs.Writing.{prices_in, origin_beside, added_origin, ladders_from, some_strikes, plan_at, Spanned, Ready}
+use Rattle.spans.specs.Spans.{held_spans, close_pair, close_spans, announced_pair, new_pair, new_spans}
 use Rattle.grid.proofs.Between.{between, near-count}
 use Rattle.ladders.proofs.Ladders.{ladders-count}
-use Rattle.spans.proofs.SpanLaws.{by-six, same_at}
+use Rattle.spans.proofs.SpanLaws.{by-six}
 use Rattle.ladders.proofs.Relisted.{added, ladders_over, left_over, ladders-over, At, from_over}
 use Rattle.calls.specs.Listing.{kept, close_low, close_high, new_low, new_high, new_origin, session_body}
 use Rattle.calls.specs.Answers as Calls
 use Rattle.calls.specs.Answers.{count, rows_held, removed}
-use Rattle.calls.specs.declared.Listed.{Listed}
+use Rattle.calls.specs.declared.Totals.{Totals}
 use Rattle.relisting.specs.Writing.{answer, head_bytes, quiet_bytes, Taken, dropped_rows}
 use Rattle.relisting.proofs.Head.{quiet_is}
 use Rattle.calls.proofs.CountLaws.{count-append, on, none_yet, of, ladder_all, rows_none}
 use Rattle.relisting.proofs.Counting.{count_months}
 use Rattle.relisting.proofs.Plans.{prices_rise, index_of, ready}
 use Rattle.relisting.proofs.Before as B
-use Rattle.relisting.proofs.Before.{rows_behind, old, well, rows_laid, holds, waits-next}
+use Rattle.relisting.proofs.Before.{old, well, rows_laid, holds, waits-next}
 use Rattle.relisting.proofs.NextMonth.{behind, stay-live, live-from}
 
 -- the lower and the higher of two numbers is one of them
@@ -64,6 +70,14 @@ min_P P i j p q = by_le i j (λ l. let e : min i j ≡ i = omega arith in rw e p
 
 max_P : (P : ℕ → Type 0) (i j : ℕ) → P i → P j → P (max i j)
 max_P P i j p q = by_le i j (λ l. let e : max i j ≡ j = omega arith in rw e q) (λ l. let e : max i j ≡ i = omega arith in rw e p)
+
+-- the byte of an origin beside a span that was held
+beside : (origin : Origin) (wide held : Strikes) (p : ℕ)
+    → origin_code (origin_beside origin wide (Some held) p) ≡ cond (within held.low held.high p) 2 (cond (within wide.low wide.high p) 3 4)
+beside origin wide held p =
+    by_bool (within held.low held.high p)
+    (λ e. rw e)
+    (λ e. by_bool (within wide.low wide.high p) (λ f. rw (e, f)) (λ f. rw (e, f)))
 
 module _ (cal bs : List ℕ) (day close : ℕ) (size : length bs ≡ register_length) (run : Running cal bs) (ok : Taken cal (moved (moment_of bs) day) close) (next : day ≡ next_session cal (moment_of bs).day) where
   abbrev R : Rules
@@ -158,9 +172,9 @@ module _ (cal bs : List ℕ) (day close : ℕ) (size : length bs ≡ register_le
     month = m;
     tier = tier_of g m;
     day = day;
-    origin = 1;
+    origin = Live;
     span = record { low = get_or (new_at m) 0 0; high = get_or (new_at m) 1 0 };
-    held = record { low = get_or (held_at m) 0 0; high = get_or (held_at m) 1 0 };
+    held = some_strikes (held_at m);
     wide = record { low = get_or (wide_at m) 0 0; high = get_or (wide_at m) 1 0 };
   }
 
@@ -174,17 +188,26 @@ module _ (cal bs : List ℕ) (day close : ℕ) (size : length bs ≡ register_le
   new_pairs = new_spans b.waiting (live_months g) held_pairs wide_pairs
 
   abbrev pub plans : ℕ → Plan
-  plans = plan_at day 1 (live_months g) held_pairs wide_pairs new_pairs
+  plans = plan_at day Live (live_months g) held_pairs wide_pairs new_pairs
 
   pub plans-at : At F plans 0 (live_months g)
   unfolding live_months held_spans close_spans new_spans
   plans-at = by-six (λ k. plans (0 + k) ≡ F (get_or (live_months g) k 0)) refl refl refl refl refl refl
 
-  pub origin_is : (m p : ℕ) → added_origin (F m) p ≡ new_origin R b x close m p
+  -- the pairs at a position are those of its month
+  held-nth : (i : ℕ) → i < 6 → get_or held_pairs i [] ≡ held_at (get_or (live_months g) i 0)
+  unfolding held_spans
+  held-nth = by-six (λ i. get_or held_pairs i [] ≡ held_at (get_or (live_months g) i 0)) refl refl refl refl refl refl
+
+  new-nth : (i : ℕ) → i < 6 → get_or new_pairs i [] ≡ new_at (get_or (live_months g) i 0)
+  unfolding live_months held_spans close_spans new_spans
+  new-nth = by-six (λ i. get_or new_pairs i [] ≡ new_at (get_or (live_months g) i 0)) refl refl refl refl refl refl
+
+  pub origin_is : (m p : ℕ) → origin_code (added_origin (F m) p) ≡ new_origin R b x close m p
   unfolding added_origin new_origin
   origin_is m p =
       by_bool (elem m (live_months f))
-      (λ e. rw (wide_is m e, held_is m e, some-low m e, live_here m e))
+      (λ e. rw (wide_is m e, held_is m e, some-low m e, live_here m e) (beside Live _ _ p))
       (λ e. rw (held_none m e, fresh-here m e))
 
   -- ---- a month that was live and still is
@@ -378,18 +401,17 @@ module _ (cal bs : List ℕ) (day close : ℕ) (size : length bs ≡ register_le
         (count-append (of (λ m. not (elem m (live_months g)))) gone staying
         ∙ rw (s.all_gone, rows_none (λ m. not (elem m (live_months g))) stay G h.entry (λ m e. rw (s.live_both m e).1)) (omega arith))
 
-    old-rows : (n : ℕ) → n ≡ length staying → rows_in (take (8 * n) (drop (rows_from + 8 * length gone) bs)) ≡ staying
-    unfolding padded
-    old-rows n e = rows_behind gone staying bs _ rows_from n (rw s.rows_are at (rows_laid cal bs size run)) e
+    old-rows : drop (length gone) b.rows ≡ staying
+    old-rows = ap (drop (length gone)) s.rows_are ∙ drop_at gone staying (length gone) refl
 
   -- ---- what a session answers and leaves
-  abbrev answered : Listed
+  abbrev answered : Totals
   answered = answer R (running b) (running after)
 
   answers : (new gone rows : ℕ) → new ≡ count (on day) after.rows → gone ≡ count (of (λ m. not (elem m (live_months g)))) b.rows → rows ≡ length after.rows
-      → ◌≡◌ {A = Listed} (record { number = 0; added = new; removed = gone; rows = rows }) answered
+      → ◌≡◌ {A = Totals} (record { added = new; removed = gone; rows = rows }) answered
   unfolding Calls.added removed rows_held session_body rules moved
-  answers new gone rows a r l = λ i. record { number = 0; added = a i; removed = r i; rows = l i }
+  answers new gone rows a r l = λ i. record { added = a i; removed = r i; rows = l i }
 
   abbrev first_span : List ℕ
   first_span = span_low b f ∷ span_high b f ∷ []
@@ -403,11 +425,11 @@ module _ (cal bs : List ℕ) (day close : ℕ) (size : length bs ≡ register_le
   -- the months listed anew
   module _ (count₁ : ℕ) (out : List ℕ) where
     abbrev listed_rows : List Row
-    listed_rows = ladders_from plans 0 6 (rows_in (take (8 * (at16 bs 4 - dropped_rows f g first_span)) (drop (rows_from + 8 * dropped_rows f g first_span) bs)))
+    listed_rows = ladders_from plans 0 6 (drop (dropped_rows f g first_span) b.rows)
 
     pub relisted : count₁ ≡ length listed_rows → out ≡ quiet_bytes day listed_rows
         → (at16 bs 4 ≤ count₁ + dropped_rows f g first_span)
-        × (◌≡◌ {A = Listed} (record { number = 0; added = count₁ + dropped_rows f g first_span - at16 bs 4; removed = dropped_rows f g first_span; rows = count₁ }) answered)
+        × (◌≡◌ {A = Totals} (record { added = count₁ + dropped_rows f g first_span - at16 bs 4; removed = dropped_rows f g first_span; rows = count₁ }) answered)
         × (out ≡ bytes_of (running after))
     unfolding session_body moved
     relisted c o =
@@ -415,8 +437,7 @@ module _ (cal bs : List ℕ) (day close : ℕ) (size : length bs ≡ register_le
         let n = row_count k.0 k.1 k.2 in
         let a = added_is k.0 k.1 k.2 in
         let d : dropped_rows f g first_span ≡ length k.1 = sym k.2.dropped in
-        let olds : rows_in (take (8 * (at16 bs 4 - dropped_rows f g first_span)) (drop (rows_from + 8 * dropped_rows f g first_span) bs)) ≡ rows_of k.0 G h.entry =
-        rw d (old-rows k.0 k.1 k.2 (at16 bs 4 - length k.1) (omega arith)) in
+        let olds : drop (dropped_rows f g first_span) b.rows ≡ rows_of k.0 G h.entry = rw d (old-rows k.0 k.1 k.2) in
         let r : listed_rows ≡ after.rows = ap (ladders_from plans 0 6) olds ∙ rows_new k.0 k.1 k.2 in
         let l : count₁ ≡ length after.rows = c ∙ ap length r in (
           omega (arith, d, n, l, a),
@@ -425,19 +446,22 @@ module _ (cal bs : List ℕ) (day close : ℕ) (size : length bs ≡ register_le
         )
 
   -- the rows left as they are
-  module _ (q : f ≡ g) (same : same_spans held_pairs new_pairs ≡ true) where
+  module _ (q : f ≡ g) (same : held_pairs ≡ new_pairs) where
     was-live : (m : ℕ) → elem m (live_months g) ≡ true → elem m (live_months f) ≡ true
     was-live m e = rw q e
 
-    span_stays : (m : ℕ) → elem m (live_months g) ≡ true → (new_low R b x close m ≡ span_low b m) × (new_high R b x close m ≡ span_high b m)
+    six : length (live_months g) ≡ 6
     unfolding live_months
+    six = refl
+
+    span_stays : (m : ℕ) → elem m (live_months g) ≡ true → (new_low R b x close m ≡ span_low b m) × (new_high R b x close m ≡ span_high b m)
     span_stays m e =
         let k = index_of (live_months g) m e in
-        let p : plans (0 + k.0) ≡ F m = plans-at k.0 k.1 ∙ ap F k.2 in
-        let w = same_at held_pairs new_pairs (0 + k.0) same in
-        let l : get_or (held_at m) 0 0 ≡ get_or (new_at m) 0 0 = sym (ap (λ (p : Plan). p.held.low) p) ∙ w.0 ∙ ap (λ (p : Plan). p.span.low) p in
-        let u : get_or (held_at m) 1 0 ≡ get_or (new_at m) 1 0 = sym (ap (λ (p : Plan). p.held.high) p) ∙ w.1 ∙ ap (λ (p : Plan). p.span.high) p in
-        (sym (rw (new_is m, held_is m (was-live m e)) at l), sym (rw (new_is m, held_is m (was-live m e)) at u))
+        let i : k.0 < 6 = omega (arith, k.1, six) in
+        let w : held_at m ≡ new_at m =
+        ap held_at (sym k.2) ∙ sym (held-nth k.0 i) ∙ ap (λ (ss : List (List ℕ)). get_or ss k.0 []) same ∙ new-nth k.0 i ∙ ap new_at k.2 in
+        let v = sym (held_is m (was-live m e)) ∙ w ∙ new_is m in
+        (sym (ap (λ (s : List ℕ). get_or s 0 0) v), sym (ap (λ (s : List ℕ). get_or s 1 0) v))
 
     prices_stay : (m : ℕ) → elem m (live_months g) ≡ true → listed R x (new_low R b x close) (new_high R b x close) m ≡ G m
     unfolding listed rules tier_at
@@ -454,7 +478,7 @@ module _ (cal bs : List ℕ) (day close : ℕ) (size : length bs ≡ register_le
         ∙ sym h.rows_are
 
     pub head_only : (out : List ℕ) → out ≡ head_bytes day (at16 bs 4) ++ drop rows_from bs
-        → (◌≡◌ {A = Listed} (record { number = 0; added = 0; removed = 0; rows = at16 bs 4 }) answered) × (out ≡ bytes_of (running after))
+        → (◌≡◌ {A = Totals} (record { added = 0; removed = 0; rows = at16 bs 4 }) answered) × (out ≡ bytes_of (running after))
     unfolding session_body moved
     head_only out o =
         let n : at16 bs 4 ≡ length b.rows = sym (B.row_count cal bs size run) in (
@@ -480,16 +504,16 @@ module _ {cal bs : List ℕ} {day close : ℕ} {size : length bs ≡ register_le
   abbrev dropped₀ : ℕ
   dropped₀ = dropped_rows (first_at cal (moment_of bs)) (first_at cal (moved (moment_of bs) day)) (first_span cal bs day close size run ok next)
 
-  abbrev answer₀ : Listed
+  abbrev answer₀ : Totals
   answer₀ = answered cal bs day close size run ok next
 
   abbrev bytes₀ : List ℕ
   bytes₀ = bytes_of (running (after cal bs day close size run ok next))
 
   abbrev listed₀ : ℕ → ℕ → List Row
-  listed₀ rows dropped = ladders_from (plan_at day 1 months held wide new) 0 6 (rows_in (take (8 * (rows - dropped)) (drop (rows_from + 8 * dropped) bs)))
+  listed₀ rows dropped = ladders_from (plan_at day Live months held wide new) 0 6 (drop dropped (read_rows rows (drop rows_from bs)))
 
-  pub up_ready : Ready (get_or months 0 0) (plan_at day 1 months held wide new)
+  pub up_ready : Ready (get_or months 0 0) (plan_at day Live months held wide new)
   unfolding live_months
   up_ready = rw (u.new_are, u.wide_are, u.held_are, u.olds_are, u.months_are, u.spans_are, u.before_is, u.first_is) (session_ready cal bs day close size run ok next)
 
@@ -506,16 +530,16 @@ module _ {cal bs : List ℕ} {day close : ℕ} {size : length bs ≡ register_le
     up-within = omega (arith, n, d, up_dropped, dropped_le cal bs day close size run ok next)
 
     pub up_relisted : {count₁ : ℕ} {out : List ℕ} → count₁ ≡ length (listed₀ rows dropped) → out ≡ quiet_bytes day (listed₀ rows dropped)
-        → (rows ≤ count₁ + dropped) × (◌≡◌ {A = Listed} (record { number = 0; added = count₁ + dropped - rows; removed = dropped; rows = count₁ }) answer₀) × (out ≡ bytes₀)
+        → (rows ≤ count₁ + dropped) × (◌≡◌ {A = Totals} (record { added = count₁ + dropped - rows; removed = dropped; rows = count₁ }) answer₀) × (out ≡ bytes₀)
     up_relisted {count₁} {out} =
         rw (u.new_are, u.wide_are, u.held_are, u.olds_are, u.months_are, n, d, up_dropped, u.spans_are, u.before_is, u.first_is)
         (relisted cal bs day close size run ok next count₁ out)
 
     pub up-count : {count₁ : ℕ} → count₁ ≡ length (listed₀ rows dropped) → count₁ ≤ most_rows
-    up-count c = omega (arith, c, ladders-count (plan_at day 1 months held wide new) 0 6 (rows_in (take (8 * (rows - dropped)) (drop (rows_from + 8 * dropped) bs))), up_ready.room)
+    up-count c = omega (arith, c, ladders-count (plan_at day Live months held wide new) 0 6 (drop dropped (read_rows rows (drop rows_from bs))), up_ready.room)
 
-  pub up_head : {rows : ℕ} {out : List ℕ} → rows ≡ at16 bs 4 → before ≡ first → same_spans held new ≡ true → out ≡ head_bytes day rows ++ drop rows_from bs
-      → (◌≡◌ {A = Listed} (record { number = 0; added = 0; removed = 0; rows = rows }) answer₀) × (out ≡ bytes₀)
+  pub up_head : {rows : ℕ} {out : List ℕ} → rows ≡ at16 bs 4 → before ≡ first → held ≡ new → out ≡ head_bytes day rows ++ drop rows_from bs
+      → (◌≡◌ {A = Totals} (record { added = 0; removed = 0; rows = rows }) answer₀) × (out ≡ bytes₀)
   up_head {rows} {out} n q =
       rw (n, u.new_are, u.wide_are, u.held_are, u.olds_are, u.months_are, u.spans_are, u.before_is, u.first_is)
       (λ same. head_only cal bs day close size run ok next (sym u.before_is ∙ q ∙ u.first_is) same out)

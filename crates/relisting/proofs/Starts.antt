@@ -19,6 +19,8 @@ use Rattle.rules.proofs.RulebookLaws.{first-day, live_rises}
 use Rattle.layout.specs.Rows.{new_entry, rows_of}
 use Rattle.layout.specs.Register.{empty, running, listed}
 use Rattle.layout.specs.Bytes.{bytes_of}
+use Rattle.std.specs.Prelude.{None}
+use Rattle.layout.specs.declared.Origin.TheVariants.{Start}
 use Rattle.ladders.specs.declared.Plan.{Plan}
 use Rattle.ladders.specs.Writing.{prices_in, added_origin, ladders_from, plan_at, Ready}
 use Rattle.spans.specs.Spans.{close_pair, close_spans}
@@ -26,7 +28,7 @@ use Rattle.spans.proofs.SpanLaws.{by-six}
 use Rattle.ladders.proofs.Relisted.{left_over, ladders-over, At, from_over}
 use Rattle.calls.specs.Listing.{start_body}
 use Rattle.calls.specs.Answers.{rows_held, count, added, removed}
-use Rattle.calls.specs.declared.Listed.{Listed}
+use Rattle.calls.specs.declared.Totals.{Totals}
 use Rattle.relisting.specs.Writing.{answer, quiet_bytes, Taken}
 use Rattle.relisting.proofs.Head.{quiet_is}
 use Rattle.calls.proofs.CountLaws.{on}
@@ -58,16 +60,16 @@ module _ (cal : List ℕ) (day close : ℕ) (ok : Taken cal (begun day) close) w
   spans = close_spans (live_months g) none close
 
   abbrev plans : ℕ → Plan
-  plans = plan_at day 5 (live_months g) none spans spans
+  plans = plan_at day Start (live_months g) none spans spans
 
   abbrev F : ℕ → Plan
   F m = record {
     month = m;
     tier = tier_of g m;
     day = day;
-    origin = 5;
+    origin = Start;
     span = record { low = required_low (tier_of g m) close; high = required_high (tier_of g m) close };
-    held = record { low = 0; high = 0 };
+    held = None;
     wide = record { low = required_low (tier_of g m) close; high = required_high (tier_of g m) close };
   }
 
@@ -99,11 +101,11 @@ module _ (cal : List ℕ) (day close : ℕ) (ok : Taken cal (begun day) close) w
 
   -- what a start answers and leaves
   pub start-done : (n : ℕ) (out : List ℕ) → n ≡ length (ladders_from plans 0 6 []) → out ≡ quiet_bytes day (ladders_from plans 0 6 [])
-      → (◌≡◌ {A = Listed} (record { number = 0; added = n; removed = 0; rows = n }) (answer (rules cal) empty (running (start_body (rules cal) (begun day) close))))
+      → (◌≡◌ {A = Totals} (record { added = n; removed = 0; rows = n }) (answer (rules cal) empty (running (start_body (rules cal) (begun day) close))))
       × (out ≡ bytes_of (running (start_body (rules cal) (begun day) close)))
   unfolding added removed rows_held count start_body begun
   start-done n out e o =
       let r = rows_are.0 in
       let c : n ≡ count (on day) (start_body (rules cal) (begun day) close).rows = e ∙ sym all_new ∙ ap (count (on day)) r in
       let l : n ≡ length (start_body (rules cal) (begun day) close).rows = e ∙ ap length r in
-      (λ i. record { number = 0; added = c i; removed = 0; rows = l i }, o ∙ ap (quiet_bytes day) r ∙ quiet_is (begun day) (start_body (rules cal) (begun day) close).rows)
+      (λ i. record { added = c i; removed = 0; rows = l i }, o ∙ ap (quiet_bytes day) r ∙ quiet_is (begun day) (start_body (rules cal) (begun day) close).rows)

@@ -12,11 +12,11 @@ use Rattle.layout.specs.Bytes.{places_length, rows_length, rows_bytes, padded, m
 use Rattle.base.specs.Words.{two}
 use Rattle.calls.specs.Listing.{session_body}
 use Rattle.calls.specs.Answers.{rows_held, added, removed}
-use Rattle.calls.specs.declared.Listed.{Listed}
+use Rattle.calls.specs.declared.Totals.{Totals}
 
 -- what it answers, from the register before and after
-abbrev pub answer : Rules → Reg → Reg → Listed
-answer R old new = record { number = 0; added = added new; removed = removed R old new; rows = length (rows_held new) }
+abbrev pub answer : Rules → Reg → Reg → Totals
+answer R old new = record { added = added new; removed = removed R old new; rows = length (rows_held new) }
 
 -- the head of a register in which nothing waits: status, none waiting, day, row count, two zeros, and no announcement
 unfoldable pub head_bytes : ℕ → ℕ → List ℕ

@@ -1,2 +1,2 @@
-pub mod JournalLaws
+pub mod Running
 pub mod Outcomes

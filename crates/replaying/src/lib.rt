@@ -1,121 +1,70 @@
-// A journal of calls run from an empty register: the way back to a register that was lost.
+// Calls run from an empty register: the way back to a register that was lost.
 #![tactic(auto)]
 
-ghost use Rattle.std.specs.Prelude.{◌≡◌, true, length};
+ghost use Rattle.std.specs.Prelude.{◌≡◌, length};
 ghost use Rattle.rules.specs.Rulebook.{rules};
 ghost use Rattle.history.specs.Claim.{final_at, numbers_at};
-ghost use Rattle.replaying.specs.Journal.{journal, all_calls, well_kept, is_empty, Left};
+ghost use Rattle.replaying.specs.Replay.{is_empty, Left};
 
-use calls::Called;
+use calls::Call;
+use std::fmt;
+use std::fmt::Display;
 
-// How a journal was run.
-#[derive(Drop)]
-pub enum Outcome {
-    Done,
+// Why calls were not run.
+#[derive(Clone, Copy, PartialEq, Eq, Debug)]
+pub enum NotRun {
     // The register was not 11,264 zero bytes.
     NotEmpty,
-    // The lists do not fit each other, or a kind with its pairs is no call.
-    Malformed,
+    // There are more or fewer places for numbers than calls.
+    Lengths,
 }
 
-// The number of pairs of a call, as an index.
-fn wide(count: u8) -> usize
-    ensures { result ≡ count }
-{
-    count as usize
-}
-
-// Whether each kind with its pairs is a call, and no pair is left over.
-fn all_calls(kinds: &[u8], counts: &[u8], pool: &[[u32; 2]]) -> bool
-    requires { length counts.now ≡ length kinds.now }
-    ensures { result ≡ all_calls kinds.now counts.now pool.now }
-{
-    let mut at: usize = 0;
-    let mut i: usize = 0;
-    while i < kinds.len() {
-        let count = wide(counts[i]);
-        if pool.len() - at < count {
-            return false;
-        }
-        let end = at + count;
-        if !calling::is_call(kinds[i], &pool[at..end]) {
-            return false;
-        }
-        at = end;
-        i += 1;
+impl Display for NotRun {
+    fn fmt<W: fmt::Write>(&self, f: &mut fmt::Formatter<W>) -> fmt::Result {
+        f.write_str(match self {
+            NotRun::NotEmpty => "the register to begin with is not empty",
+            NotRun::Lengths => "there are more or fewer places for numbers than calls",
+        })
     }
-    at == pool.len()
 }
 
-// Whether each call of the journal has its pairs and a place for its number.
-#[tactic(auto, unfolding(crate::specs::Journal::well_kept))]
-fn well_kept(kinds: &[u8], counts: &[u8], pool: &[[u32; 2]], numbers: &[u16]) -> bool
-    ensures { result ≡ well_kept kinds.now counts.now pool.now numbers.now }
-{
-    if counts.len() != kinds.len() {
-        return false;
-    }
-    if numbers.len() != kinds.len() {
-        return false;
-    }
-    all_calls(kinds, counts, pool)
-}
-
-#[tactic(auto, unfolding(crate::specs::Journal::is_empty))]
+#[tactic(auto, unfolding(crate::specs::Replay::is_empty))]
 fn is_empty(register: &[u8]) -> bool
     ensures { result ≡ is_empty register.now }
 {
-    if register.len() != layout::REGISTER_LENGTH {
-        return false;
-    }
-    layout::is_zero(register)
+    register.len() == layout::REGISTER_LENGTH && layout::is_zero(register)
 }
 
-// Runs the calls of a journal one after the other and keeps their numbers.
-fn run(
-    calendar: &[u8],
-    kinds: &[u8],
-    counts: &[u8],
-    pool: &[[u32; 2]],
-    register: &mut [u8],
-    numbers: &mut [u16],
-)
-    requires { well_kept kinds.now counts.now pool.now numbers.old ≡ true }
-    ensures register_after { register.new ≡ final_at (rules calendar.now) (journal kinds.now counts.now pool.now) register.old }
-    ensures numbers_after { numbers.new ≡ numbers_at (rules calendar.now) (journal kinds.now counts.now pool.now) register.old }
+// Makes the calls one after the other and keeps their numbers.
+fn run(calendar: &[u8], calls: &[Call], register: &mut [u8], numbers: &mut [u16])
+    requires { length numbers.old ≡ length calls.now }
+    ensures register_after { register.new ≡ final_at (rules calendar.now) calls.now register.old }
+    ensures numbers_after { numbers.new ≡ numbers_at (rules calendar.now) calls.now register.old }
 {
-    let mut at: usize = 0;
-    let mut i: usize = 0;
-    while i < kinds.len() {
-        let end = at + wide(counts[i]);
-        let called = calling::call_by_kind(calendar, register, kinds[i], &pool[at..end]);
-        let Called::Answered(answer) = called else {
-            return;
+    for (i, call) in calls.iter().enumerate() {
+        numbers[i] = match calling::make(calendar, register, *call) {
+            Ok(_) => 0,
+            Err(cause) => cause.number(),
         };
-        numbers[i] = answer.number;
-        at = end;
-        i += 1;
     }
 }
 
-// Runs a journal from an empty register and keeps each call's number. Whatever is refused here is refused before anything is
-// written. An entry point: it takes any slices.
+// Runs calls from an empty register and keeps each call's number. Whatever is refused here is refused before anything is written.
+// An entry point: it takes any slices.
 pub fn replay(
     calendar: &[u8],
-    kinds: &[u8],
-    counts: &[u8],
-    pool: &[[u32; 2]],
+    calls: &[Call],
     register: &mut [u8],
     numbers: &mut [u16],
-) -> Outcome
-    ensures { Left calendar.now kinds.now counts.now pool.now register.old numbers.old register.new numbers.new result }
+) -> Result<(), NotRun>
+    ensures { Left calendar.now calls.now register.old numbers.old register.new numbers.new result }
 {
     if !is_empty(register) {
-        return Outcome::NotEmpty;
+        return Err(NotRun::NotEmpty);
     }
-    if !well_kept(kinds, counts, pool, numbers) {
-        return Outcome::Malformed;
+    if numbers.len() != calls.len() {
+        return Err(NotRun::Lengths);
     }
-    run(calendar, kinds, counts, pool, register, numbers);
-    Outcome::Done
+    run(calendar, calls, register, numbers);
+    Ok(())
 }

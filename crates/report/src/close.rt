@@ -1,82 +1,125 @@
 // How a close lies to what the ladders stand around.
-use phrases::fill;
+use base::Tier;
+use reading::{Register, Span};
+use std::fmt;
+use std::fmt::Display;
+use text::{Month, Plural, Points};
 
-// The ladder of the nearest month as it stood before the call, by its ends.
-#[derive(Drop)]
+// The ladder of the nearest month as it stood before the call.
+#[derive(Clone, Copy)]
 struct Nearest {
     month: u32,
-    low: u32,
-    high: u32,
+    span: Span,
 }
 
-fn nearest_of(before: &[u8], after: &[u8]) -> Nearest {
-    let month = reading::first_live(after);
-    let rows = reading::rows_of(before, month);
-    Nearest {
-        month: month,
-        low: reading::lowest(rows) % 65536,
-        high: reading::highest(rows) % 65536,
+// A start has none before it.
+fn nearest_of(before: Register<'_>, after: Register<'_>) -> Option<Nearest> {
+    let month = after.first_live();
+    let span = before.rows_of(month).span()?;
+    Some(Nearest { month, span })
+}
+
+impl Display for Nearest {
+    fn fmt<W: fmt::Write>(&self, f: &mut fmt::Formatter<W>) -> fmt::Result {
+        write!(f, "the {} ladder, {}", Month(self.month), self.span)
     }
 }
 
-// Whether a close lies outside the ladder of the nearest month as it stood before the call. A start has none before it.
-pub fn is_far(before: &[u8], after: &[u8], close: u32) -> bool {
-    let nearest = nearest_of(before, after);
-    if nearest.high == 0 {
-        return false;
-    }
-    close < 100 * (nearest.low % 65536) || 100 * (nearest.high % 65536) < close
+// A price as a close would have it, in hundredths.
+fn in_hundredths(price: u32) -> u32 {
+    price.saturating_mul(100)
 }
 
-// How far a close lies from a level in hundredths, above or below it.
-fn apart(out: &mut [u8], at: usize, close: u32, level: u32) -> usize {
-    let at = fill(out, at, b"\n  close %c, ", [close, 0, 0, 0, 0, 0]);
-    if close < level {
-        return fill(out, at, b"%c below %c", [level - close, level, 0, 0, 0, 0]);
+// How far a close lies from a level, above or below it.
+#[derive(Clone, Copy)]
+struct Apart {
+    close: u32,
+    level: u32,
+}
+
+impl Display for Apart {
+    fn fmt<W: fmt::Write>(&self, f: &mut fmt::Formatter<W>) -> fmt::Result {
+        let apart = Points(self.close.abs_diff(self.level));
+        let side = if self.close < self.level {
+            "below"
+        } else {
+            "above"
+        };
+        write!(f, "{apart} {side} {}", Points(self.level))
     }
-    fill(out, at, b"%c above %c", [close - level, level, 0, 0, 0, 0])
 }
 
 // A close, and how far it lies from the middle of the nearest month's ladder; that of a start from the strike that it lists
 // the ladders around.
-pub fn distance(out: &mut [u8], at: usize, before: &[u8], after: &[u8], close: u32) -> usize {
-    let nearest = nearest_of(before, after);
-    if nearest.high == 0 {
-        let strike = lookup::lookup_nearest(0, close) % 65536;
-        let at = apart(out, at, close, 100 * strike);
-        return text::put(out, at, b", the strike that the ladders stand around");
-    }
-    let middle = 50 * (nearest.low % 65536 + nearest.high % 65536);
-    let at = apart(out, at, close, middle);
-    fill(
-        out,
-        at,
-        b", the middle of the %m ladder, %n to %n",
-        [nearest.month, nearest.low, nearest.high, 0, 0, 0],
-    )
+#[derive(Clone, Copy)]
+pub struct Distance<'a> {
+    pub before: Register<'a>,
+    pub after: Register<'a>,
+    pub close: u32,
 }
 
-// Why a close that is far is asked about, and how to say yes to it.
-pub fn far(
-    out: &mut [u8],
-    at: usize,
-    before: &[u8],
-    after: &[u8],
+impl Display for Distance<'_> {
+    fn fmt<W: fmt::Write>(&self, f: &mut fmt::Formatter<W>) -> fmt::Result {
+        let close = self.close;
+        write!(f, "\n  close {}, ", Points(close))?;
+        if let Some(nearest) = nearest_of(self.before, self.after) {
+            let low = in_hundredths(nearest.span.low);
+            let high = in_hundredths(nearest.span.high);
+            let level = low.midpoint(high);
+            return write!(f, "{}, the middle of {nearest}", Apart { close, level });
+        }
+        let Some(strike) = lookup::nearest(Tier::N, close) else {
+            return Ok(());
+        };
+        let level = in_hundredths(strike);
+        write!(
+            f,
+            "{}, the strike that the ladders stand around",
+            Apart { close, level }
+        )
+    }
+}
+
+// A close outside the ladder of the nearest month as it stood before the call. It is asked about: why, and how to say yes to it.
+#[derive(Clone, Copy)]
+pub struct FarClose {
     close: u32,
-    added: u32,
-) -> usize {
-    let nearest = nearest_of(before, after);
-    fill(
-        out,
-        at,
-        b"%c lies outside the %m ladder, %n to %n, and would add %n row%s\n  if it is right, add --yes; preview shows each row",
-        [
+    nearest: Nearest,
+    added: u16,
+}
+
+impl FarClose {
+    // None where the close lies within the ladder, or there was none.
+    pub fn found(
+        before: Register<'_>,
+        after: Register<'_>,
+        close: u32,
+        added: u16,
+    ) -> Option<FarClose> {
+        let nearest = nearest_of(before, after)?;
+        let low = in_hundredths(nearest.span.low);
+        let high = in_hundredths(nearest.span.high);
+        if (low..=high).contains(&close) {
+            return None;
+        }
+        Some(FarClose {
             close,
-            nearest.month,
-            nearest.low,
-            nearest.high,
+            nearest,
             added,
-            added,
-        ],
-    )
+        })
+    }
+}
+
+impl Display for FarClose {
+    fn fmt<W: fmt::Write>(&self, f: &mut fmt::Formatter<W>) -> fmt::Result {
+        let added = self.added;
+        write!(
+            f,
+            "{} lies outside {}, and would add {added} row{}\n  \
+            if it is right, add --yes; preview shows each row",
+            Points(self.close),
+            self.nearest,
+            Plural(u32::from(added)),
+        )
+    }
 }

@@ -1,67 +1,85 @@
 // A file of series: what was written, and what it has.
-use fields::{CONTENT, DAY_FIELD, SERIES_FIELD, SERIES_LENGTH};
-use phrases::fill;
-use text::put;
+use fields::{CONTENT, DAY_FIELD, SERIES_FIELD};
+use names::Kind;
+use phrases::{Origin, SeriesName};
+use std::fmt;
+use std::fmt::Display;
+use text::{Date, Month, Plural};
 
-// Where the origin stands behind a name.
-const ORIGIN: usize = names::LENGTH as usize;
+// Where the origin stands behind the name.
+const ORIGIN: usize = SERIES_FIELD - 1;
 
-// How many series a file of a length has.
-fn count(length: usize) -> u32 {
-    if length < DAY_FIELD {
-        return 0;
-    }
-    text::narrowed((length - DAY_FIELD) / SERIES_FIELD)
+// That a file of a length was written with the series that are new on a day. The file's name stands before it.
+#[derive(Clone, Copy)]
+pub struct Written {
+    pub day: u32,
+    pub length: usize,
 }
 
-// That a file was written: its name, the series that are new on the day, its length.
-pub fn written(out: &mut [u8], at: usize, name: &[u8], day: u32, length: usize) -> usize {
-    let series = count(length);
-    let rows = series / 2;
-    let bytes = text::narrowed(length);
-    let at = put(out, at, name);
-    if series == 0 {
-        return fill(
-            out,
-            at,
-            b": no series is new on %d, %n bytes\n",
-            [day, bytes, 0, 0, 0, 0],
-        );
+impl Display for Written {
+    fn fmt<W: fmt::Write>(&self, f: &mut fmt::Formatter<W>) -> fmt::Result {
+        let length = self.length;
+        let day = Date(self.day);
+        let series = length.saturating_sub(DAY_FIELD) / SERIES_FIELD;
+        if series == 0 {
+            return writeln!(f, ": no series is new on {day}, {length} bytes");
+        }
+        let rows = text::narrowed(series / 2);
+        writeln!(
+            f,
+            ": {series} series, call and put of {rows} row{} new on {day}, {length} bytes",
+            Plural(rows),
+        )
     }
-    fill(
-        out,
-        at,
-        b": %n series, call and put of %n row%s new on %d, %n bytes\n",
-        [series, rows, rows, day, bytes, 0],
-    )
 }
 
 // The day of a file and how many series it has.
-pub fn series_heading(out: &mut [u8], at: usize, day: u32, series: u32) -> usize {
-    if series == 0 {
-        return fill(out, at, b"%d: no series\n", [day, 0, 0, 0, 0, 0]);
-    }
-    fill(
-        out,
-        at,
-        b"%d: %n series\nname         month    type  strike  origin\n",
-        [day, series, 0, 0, 0, 0],
-    )
+#[derive(Clone, Copy)]
+pub struct SeriesHeading {
+    pub day: u32,
+    pub series: u32,
 }
 
-// The series of a number, counted from 0, in a line.
-pub fn series_line(out: &mut [u8], at: usize, file: &[u8], number: u32) -> usize {
-    let start = DAY_FIELD + SERIES_FIELD * (number as usize) + CONTENT;
-    let content = text::part(file, start, start + SERIES_LENGTH);
-    let name = text::part(content, 0, ORIGIN);
-    let series = names::read(name);
-    let origin = reading::byte_at(content, ORIGIN);
-    let form = lines::line(
-        b"  %m  call  %6  %o\n  %m  put   %6  %o",
-        if series.kind == 0 { 1 } else { 2 },
-    );
-    let at = put(out, at, name);
-    let values = [series.month as u32, series.price as u32, origin, 0, 0, 0];
-    let at = fill(out, at, form, values);
-    text::put_byte(out, at, b'\n')
+impl Display for SeriesHeading {
+    fn fmt<W: fmt::Write>(&self, f: &mut fmt::Formatter<W>) -> fmt::Result {
+        let day = Date(self.day);
+        match self.series {
+            0 => writeln!(f, "{day}: no series"),
+            series => write!(
+                f,
+                "{day}: {series} series\nname         month    type  strike  origin\n",
+            ),
+        }
+    }
+}
+
+// The fields of a file's series.
+pub fn series_fields(file: &[u8]) -> &[[u8; SERIES_FIELD]] {
+    let (fields, _) = file.get(DAY_FIELD..).unwrap_or(&[]).as_chunks();
+    fields
+}
+
+// A series by its field, in a line.
+#[derive(Clone, Copy)]
+pub struct SeriesLine(pub [u8; SERIES_FIELD]);
+
+impl Display for SeriesLine {
+    fn fmt<W: fmt::Write>(&self, f: &mut fmt::Formatter<W>) -> fmt::Result {
+        let field = self.0;
+        let Ok(series) = names::read(&field[CONTENT..ORIGIN]) else {
+            return Ok(());
+        };
+        let kind = match series.kind {
+            Kind::Call => "call",
+            Kind::Put => "put ",
+        };
+        writeln!(
+            f,
+            "{}  {}  {kind}  {:6}  {}",
+            SeriesName::from(series),
+            Month(u32::from(series.month)),
+            series.price,
+            Origin(u32::from(field[ORIGIN])),
+        )
+    }
 }

@@ -1,53 +1,54 @@
 // The register at a glance: its day, what waits, and the six ladders.
-use crate::parts::{announcements, columns, ladder_of};
-use phrases::fill;
+use crate::parts::{Ladder, Waiting};
+use reading::Register;
+use std::fmt;
+use std::fmt::Display;
+use text::{Date, Plural};
 
 // The whole register, or how to start it where it is empty.
-pub fn show(out: &mut [u8], at: usize, calendar: &[u8], register: &[u8]) -> usize {
-    if reading::row_count(register) == 0 {
-        return text::put(
-            out,
-            at,
-            b"the register is empty: start it\n  sindhopul start CALENDAR REGISTER DAY CLOSE\n",
-        );
+#[derive(Clone, Copy)]
+pub struct Glance<'a>(pub Register<'a>);
+
+impl Display for Glance<'_> {
+    fn fmt<W: fmt::Write>(&self, f: &mut fmt::Formatter<W>) -> fmt::Result {
+        if self.0.row_count() == 0 {
+            f.write_str(
+                "the register is empty: start it\n  sindhopul start CALENDAR REGISTER DAY CLOSE\n",
+            )
+        } else {
+            running(f, self.0)
+        }
     }
-    running(out, at, calendar, register)
 }
 
-fn running(out: &mut [u8], at: usize, calendar: &[u8], register: &[u8]) -> usize {
-    let day = reading::day(register);
-    let rows = reading::row_count(register);
-    let n = reading::waiting(register);
-    let next = reading::next_session(calendar, register);
-    let form = lines::line(
-        b"%d: %n row%s, no announcement waits\n%d: %n row%s, %n announcement%s for the session of %d",
-        if n == 0 { 1 } else { 2 },
-    );
-    let at = fill(out, at, form, [day, rows, rows, n, n, next]);
-    let at = announcements(out, at, register, n);
-    let at = ladders(out, at, calendar, register);
-    let new = reading::listed_on(reading::all_rows(register), day);
-    fill(
-        out,
-        at,
-        b"\nin all                                   %4       %4\n",
-        [rows, new, 0, 0, 0, 0],
+fn running<W: fmt::Write>(f: &mut fmt::Formatter<W>, register: Register<'_>) -> fmt::Result {
+    let day = register.day();
+    let rows = register.row_count();
+    write!(f, "{}: {rows} row{}, ", Date(day), Plural(rows))?;
+    match (register.waiting(), register.next_session()) {
+        (0, _) | (_, None) => f.write_str("no announcement waits")?,
+        (n, Some(next)) => {
+            write!(
+                f,
+                "{n} announcement{} for the session of {}",
+                Plural(n),
+                Date(next)
+            )?
+        }
+    }
+    write!(
+        f,
+        "{}\n\nmonth    tier  expires     span          rows  new today",
+        Waiting(register),
+    )?;
+    for month in register.live_months() {
+        if let Some(ladder) = Ladder::of(register, month) {
+            write!(f, "{ladder}       {:4}", ladder.new)?;
+        }
+    }
+    let new = register.rows().listed_on(day);
+    write!(
+        f,
+        "\nin all                                   {rows:4}       {new:4}\n"
     )
-}
-
-fn ladders(out: &mut [u8], at: usize, calendar: &[u8], register: &[u8]) -> usize {
-    let mut at = text::put(
-        out,
-        at,
-        b"\n\nmonth    tier  expires     span          rows  new today",
-    );
-    let mut place: u32 = 0;
-    while place < 6 {
-        let month = reading::live_month(register, place);
-        let ladder = ladder_of(register, month);
-        at = columns(out, at, calendar, month, ladder);
-        at = fill(out, at, b"       %4", [ladder.new, 0, 0, 0, 0, 0]);
-        place += 1;
-    }
-    at
 }

@@ -1,172 +1,187 @@
 // What an accepted call did to the register.
-use crate::brought::count_brought;
-use crate::close::distance;
-use crate::parts::{Ladder, announcements, columns, ladder_of};
+use crate::close::Distance;
+use crate::parts::{Ladder, Waiting};
+use calls::Totals;
 use layout::MOST_WAITING;
-use phrases::fill;
-
-// What a start or a session answers: how many rows it added and removed, and how many are listed now.
-#[derive(Clone, Copy)]
-pub struct Totals {
-    pub added: u32,
-    pub removed: u32,
-    pub rows: u32,
-}
+use phrases::SeriesName;
+use reading::{Register, Span};
+use std::fmt;
+use std::fmt::Display;
+use text::{Date, Month, Plural};
 
 // What a start or a session did: the totals, its close, the month that was dropped, what was taken in, then the live months.
-pub fn changes(
-    out: &mut [u8],
-    at: usize,
-    calendar: &[u8],
-    before: &[u8],
-    after: &[u8],
-    totals: Totals,
-    close: u32,
-) -> usize {
-    let rows = reading::row_count(before);
-    let at = heading(out, at, reading::day(after), totals, rows);
-    let at = distance(out, at, before, after, close);
-    let at = expired(out, at, calendar, before, totals.removed);
-    let n = reading::waiting(before);
-    let at = fill_where(
-        out,
-        at,
-        n != 0,
-        b"\n  %n announcement%s taken in:",
-        [n, n, 0, 0, 0, 0],
-    );
-    let at = announcements(out, at, before, n);
-    let at = ladders(out, at, calendar, before, after, rows == 0);
-    text::put_byte(out, at, b'\n')
+#[derive(Clone, Copy)]
+pub struct Changes<'a> {
+    pub before: Register<'a>,
+    pub after: Register<'a>,
+    pub totals: Totals,
+    pub close: u32,
 }
 
-// A form that is left out where something does not hold.
-fn fill_where(out: &mut [u8], at: usize, holds: bool, form: &[u8], values: [u32; 6]) -> usize {
-    if holds {
-        return fill(out, at, form, values);
+impl Display for Changes<'_> {
+    fn fmt<W: fmt::Write>(&self, f: &mut fmt::Formatter<W>) -> fmt::Result {
+        let Changes {
+            before,
+            after,
+            totals,
+            close,
+        } = *self;
+        let Totals {
+            added,
+            removed,
+            rows,
+        } = totals;
+        let was = before.row_count();
+        write!(
+            f,
+            "{}: {added} row{} added, {removed} removed, {rows} listed, {was} before{}",
+            Date(after.day()),
+            Plural(u32::from(added)),
+            Distance {
+                before,
+                after,
+                close
+            },
+        )?;
+        if 0 < removed {
+            expired(f, before, removed)?;
+        }
+        let n = before.waiting();
+        if 0 < n {
+            write!(
+                f,
+                "\n  {n} announcement{} taken in:{}",
+                Plural(n),
+                Waiting(before)
+            )?;
+        }
+        ladders(f, before, after)?;
+        f.write_str("\n")
     }
-    at
-}
-
-fn heading(out: &mut [u8], at: usize, day: u32, totals: Totals, rows_before: u32) -> usize {
-    fill(
-        out,
-        at,
-        b"%d: %n row%s added, %n removed, %n listed, %n before",
-        [
-            day,
-            totals.added,
-            totals.added,
-            totals.removed,
-            totals.rows,
-            rows_before,
-        ],
-    )
 }
 
 // The rows that went are those of the month that was the first live one.
-fn expired(out: &mut [u8], at: usize, calendar: &[u8], before: &[u8], removed: u32) -> usize {
-    let month = reading::first_live(before);
-    let expiry = lookup::lookup_expiry(calendar, month);
-    fill_where(
-        out,
-        at,
-        removed != 0,
-        b"\n  %m expired on %d: %n row%s removed",
-        [month, expiry, removed, removed, 0, 0],
+fn expired<W: fmt::Write>(
+    f: &mut fmt::Formatter<W>,
+    before: Register<'_>,
+    removed: u16,
+) -> fmt::Result {
+    let month = before.first_live();
+    let Some(expiry) = lookup::expiry(before.calendar, month) else {
+        return Ok(());
+    };
+    write!(
+        f,
+        "\n  {} expired on {}: {removed} row{} removed",
+        Month(month),
+        Date(expiry),
+        Plural(u32::from(removed)),
     )
 }
 
-fn ladders(
-    out: &mut [u8],
-    at: usize,
-    calendar: &[u8],
-    before: &[u8],
-    after: &[u8],
-    started: bool,
-) -> usize {
-    let mut at = text::put(
-        out,
-        at,
-        b"\n\nmonth    tier  expires     span          rows  added",
-    );
-    let mut place: u32 = 0;
-    while place < 6 {
-        let month = reading::live_month(after, place);
-        let was = ladder_of(before, month);
-        let is = ladder_of(after, month);
-        at = columns(out, at, calendar, month, is);
-        at = compared(out, at, change(was, is, started), was, is.new);
-        place += 1;
+fn ladders<W: fmt::Write>(
+    f: &mut fmt::Formatter<W>,
+    before: Register<'_>,
+    after: Register<'_>,
+) -> fmt::Result {
+    f.write_str("\n\nmonth    tier  expires     span          rows  added")?;
+    for month in after.live_months() {
+        if let Some(ladder) = Ladder::of(after, month) {
+            write!(f, "{ladder}   {:4}", ladder.new)?;
+            if 0 < before.row_count() {
+                compared(f, Ladder::of(before, month), ladder)?;
+            }
+        }
     }
-    at
+    Ok(())
 }
 
-// What a month's ladder did in a call, as the number of its form.
-fn change(was: Ladder, is: Ladder, started: bool) -> u32 {
-    if started {
-        return 1;
+// How a month's ladder stood before.
+fn compared<W: fmt::Write>(
+    f: &mut fmt::Formatter<W>,
+    was: Option<Ladder>,
+    is: Ladder,
+) -> fmt::Result {
+    let Some(was) = was else {
+        return f.write_str("  newly live");
+    };
+    if was.tier == is.tier && was.span == is.span {
+        return f.write_str("  as before");
     }
-    if was.rows == 0 {
-        return 2;
+    if was.tier != is.tier {
+        write!(f, "  tier was {}", was.tier)?;
     }
-    if was.tier == is.tier {
-        return if same_span(was, is) { 3 } else { 5 };
+    if was.span != is.span {
+        let Span { low, high } = was.span;
+        write!(f, "  span was {low:4} to {high:4}")?;
     }
-    if same_span(was, is) { 4 } else { 6 }
-}
-
-fn same_span(was: Ladder, is: Ladder) -> bool {
-    was.low == is.low && was.high == is.high
-}
-
-// How many rows were added to a month, and how it stood before.
-fn compared(out: &mut [u8], at: usize, change: u32, was: Ladder, new: u32) -> usize {
-    let form = lines::line(
-        b"   %4
-   %4  newly live
-   %4  as before
-   %4  tier was %t
-   %4  span was %4 to %4
-   %4  tier was %t  span was %4 to %4",
-        change,
-    );
-    if change == 5 {
-        return fill(out, at, form, [new, was.low, was.high, 0, 0, 0]);
-    }
-    fill(out, at, form, [new, was.tier, was.low, was.high, 0, 0])
+    Ok(())
 }
 
 // What an announcement did, when what waits is introduced and how many rows it brings beyond those that stood before, and
 // how much waits of what may.
-pub fn announced(
-    out: &mut [u8],
-    at: usize,
-    calendar: &[u8],
-    before: &[u8],
-    month: u32,
-    price: u32,
-    waiting: u32,
-) -> usize {
-    let series = phrases::series(month, price);
-    let next = reading::next_session(calendar, before);
-    let rows = count_brought(calendar, before, month, price);
-    let at = fill(
-        out,
-        at,
-        b"announced: %m at %n, call %C, put %P\n",
-        [month, price, series, series, 0, 0],
-    );
-    let at = fill(
-        out,
-        at,
-        b"  the session of %d introduces it, %n row%s; ",
-        [next, rows, rows, 0, 0, 0],
-    );
-    fill(
-        out,
-        at,
-        b"%n of %n places taken until then\n",
-        [waiting, MOST_WAITING as u32, 0, 0, 0, 0],
-    )
+#[derive(Clone, Copy)]
+pub struct Announced<'a> {
+    pub before: Register<'a>,
+    pub month: u32,
+    pub price: u32,
+    pub waiting: u16,
+}
+
+impl Announced<'_> {
+    // How many rows the next session lists for the announcement alone, beyond the ladder and what waits for it.
+    fn brought(self) -> Option<u32> {
+        let Announced {
+            before,
+            month,
+            price,
+            ..
+        } = self;
+        let tier = before.next_tier(month)?;
+        let ladder = before.rows_of(month).span()?;
+        let reach = before
+            .announcements()
+            .filter(|waits| waits.month == month)
+            .fold(ladder, |span, waits| span.joined(at(waits.price)));
+        let whole = reach.joined(at(price));
+        let brought = (whole.low..=whole.high)
+            .filter(|&price| !reach.contains(price) && grid::on_grid(tier, price))
+            .count();
+        Some(text::narrowed(brought))
+    }
+}
+
+// The span of one price.
+fn at(price: u32) -> Span {
+    Span {
+        low: price,
+        high: price,
+    }
+}
+
+impl Display for Announced<'_> {
+    fn fmt<W: fmt::Write>(&self, f: &mut fmt::Formatter<W>) -> fmt::Result {
+        let Announced {
+            before,
+            month,
+            price,
+            waiting,
+        } = *self;
+        writeln!(
+            f,
+            "announced: {} at {price}, call {}, put {}",
+            Month(month),
+            SeriesName::call(month, price),
+            SeriesName::put(month, price),
+        )?;
+        if let (Some(next), Some(rows)) = (before.next_session(), self.brought()) {
+            write!(
+                f,
+                "  the session of {} introduces it, {rows} row{}; ",
+                Date(next),
+                Plural(rows),
+            )?;
+        }
+        writeln!(f, "{waiting} of {MOST_WAITING} places taken until then")
+    }
 }

@@ -1,82 +1,98 @@
 // The rows of one month, and the rows of one day.
-use crate::parts::ladder_of;
-use phrases::fill;
-use reading::Row;
+use crate::parts::Ladder;
+use phrases::{Origin, SeriesName};
+use reading::{Register, Row, Rows};
+use std::fmt;
+use std::fmt::Display;
+use text::{Date, Month, Plural};
 
-// A month's rows, one to a line under a heading; nothing where the month is not live.
-pub fn rows(out: &mut [u8], at: usize, calendar: &[u8], register: &[u8], month: u32) -> usize {
-    let ladder = ladder_of(register, month);
-    if ladder.rows == 0 {
-        return at;
+// What the tables of rows end with: the two series of a row, and why it was listed.
+#[derive(Clone, Copy)]
+struct Listed(Row);
+
+impl Display for Listed {
+    fn fmt<W: fmt::Write>(&self, f: &mut fmt::Formatter<W>) -> fmt::Result {
+        let Row {
+            month,
+            price,
+            origin,
+            ..
+        } = self.0;
+        let call = SeriesName::call(month, price);
+        let put = SeriesName::put(month, price);
+        writeln!(f, "{call}  {put}  {}", Origin(origin))
     }
-    let expiry = lookup::lookup_expiry(calendar, month);
-    let at = fill(
-        out,
-        at,
-        b"%m: tier %t, expires %d, %n row%s",
-        [month, ladder.tier, expiry, ladder.rows, ladder.rows, 0],
-    );
-    let at = fill(
-        out,
-        at,
-        b" from %4 to %4\nprice  first day   call         put          origin\n",
-        [ladder.low, ladder.high, 0, 0, 0, 0],
-    );
-    row_lines(out, at, reading::rows_of(register, month), ladder.rows)
 }
 
-// The first n rows.
-fn row_lines(out: &mut [u8], at: usize, rows: &[u8], n: u32) -> usize {
-    let mut at = at;
-    let mut i: u32 = 0;
-    while i < n {
-        let row = reading::row_at(rows, i);
-        let series = phrases::series(row.month, row.price);
-        at = fill(
-            out,
-            at,
-            b" %4  %d  %C  %P  %o\n",
-            [row.price, row.first, series, series, row.origin, 0],
-        );
-        i += 1;
-    }
-    at
+// A month's rows, one to a line under a heading.
+#[derive(Clone, Copy)]
+pub struct MonthRows<'a> {
+    ladder: Ladder,
+    rows: Rows<'a>,
 }
 
-// The n rows that the start or session of the register's day added.
-pub fn added(out: &mut [u8], at: usize, register: &[u8], n: u32) -> usize {
-    let day = reading::day(register);
-    let at = fill(out, at, b"%d: %n row%s added\n", [day, n, n, 0, 0, 0]);
-    if n == 0 {
-        return at;
+impl<'a> MonthRows<'a> {
+    // None where the month is not live.
+    pub fn of(register: Register<'a>, month: u32) -> Option<MonthRows<'a>> {
+        let ladder = Ladder::of(register, month)?;
+        let rows = register.rows_of(month);
+        Some(MonthRows { ladder, rows })
     }
-    added_lines(out, at, reading::all_rows(register), day)
 }
 
-fn added_lines(out: &mut [u8], at: usize, rows: &[u8], day: u32) -> usize {
-    let n = reading::count(rows);
-    let mut at = text::put(
-        out,
-        at,
-        b"month    price  call         put          origin\n",
-    );
-    let mut i: u32 = 0;
-    while i < n {
-        at = added_line(out, at, reading::row_at(rows, i), day);
-        i += 1;
+impl Display for MonthRows<'_> {
+    fn fmt<W: fmt::Write>(&self, f: &mut fmt::Formatter<W>) -> fmt::Result {
+        let Ladder {
+            month,
+            tier,
+            expiry,
+            span,
+            rows,
+            ..
+        } = self.ladder;
+        write!(
+            f,
+            "{}: tier {tier}, expires {}, {rows} row{} from {:4} to {:4}\n\
+            price  first day   call         put          origin\n",
+            Month(month),
+            Date(expiry),
+            Plural(rows),
+            span.low,
+            span.high,
+        )?;
+        for row in self.rows {
+            write!(f, " {:4}  {}  {}", row.price, Date(row.first), Listed(row))?;
+        }
+        Ok(())
     }
-    at
 }
 
-fn added_line(out: &mut [u8], at: usize, row: Row, day: u32) -> usize {
-    if row.first != day {
-        return at;
+// The rows that the start or session of the register's day added, as many as it told.
+#[derive(Clone, Copy)]
+pub struct AddedRows<'a> {
+    pub register: Register<'a>,
+    pub count: u16,
+}
+
+impl Display for AddedRows<'_> {
+    fn fmt<W: fmt::Write>(&self, f: &mut fmt::Formatter<W>) -> fmt::Result {
+        let AddedRows { register, count } = *self;
+        let day = register.day();
+        writeln!(
+            f,
+            "{}: {count} row{} added",
+            Date(day),
+            Plural(u32::from(count))
+        )?;
+        if count == 0 {
+            return Ok(());
+        }
+        f.write_str("month    price  call         put          origin\n")?;
+        for row in register.rows() {
+            if row.first == day {
+                write!(f, "{}   {:4}  {}", Month(row.month), row.price, Listed(row))?;
+            }
+        }
+        Ok(())
     }
-    let series = phrases::series(row.month, row.price);
-    fill(
-        out,
-        at,
-        b"%m   %4  %C  %P  %o\n",
-        [row.month, row.price, series, series, row.origin, 0],
-    )
 }

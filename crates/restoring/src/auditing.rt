@@ -1,104 +1,69 @@
 // A register held against what its journal gives.
-use matching::Found;
-use system::{Stream, System};
-use terminal::{DONE, REFUSED, TROUBLE, say};
+use audit::Difference;
+use files::Trouble;
+use keeping::Journal;
+use layout::REGISTER_LENGTH;
+use matching::{Last, Names, Way};
+use reading::Register;
+use system::Stream;
+use terminal::Status;
+use text::Text;
 
-// The journal as a command names it: one that was read from a standard stream has another name, if any.
-fn name_of<'a>(path: &'a [u8], other: &'a [u8]) -> &'a [u8] {
-    if text::same(path, b"-") {
-        return other;
+// What lies between the two, and the way on.
+fn way_between<'a>(
+    text: &'a [u8],
+    last: Option<Last<'a>>,
+    given: Register<'a>,
+    register: Register<'a>,
+) -> Way<'a> {
+    if let Some(last) = keeping::unmade(text, register, last) {
+        return Way::Ahead(last);
     }
-    path
-}
-
-// What is the matter, and the way on.
-fn put_way(
-    system: &System,
-    out: &mut [u8],
-    at: usize,
-    path: &[u8],
-    text: &[u8],
-    calendar: &[u8],
-    given: &[u8],
-    register: &[u8],
-    found: Found,
-) -> usize {
-    let mut calendar_name = system::buffer();
-    let c = commands::word(system, 2, &mut calendar_name);
-    let mut register_name = system::buffer();
-    let r = commands::word(system, 4, &mut register_name);
-    if keeping::is_before_last(text, calendar, register, found) {
-        return matching::ahead(
-            out,
-            at,
-            lines::line(text, found.line),
-            text::part(&calendar_name, 0, c),
-            text::part(&register_name, 0, r),
-            name_of(path, b"JOURNAL"),
-            b"",
-        );
-    }
-    let mut again = space::register();
-    let sought = matching::run(text, calendar, &mut again, register);
-    matching::apart(
-        out,
-        at,
-        calendar,
-        given,
-        register,
-        sought.passed,
-        true,
-        text::part(&calendar_name, 0, c),
-        text::part(&register_name, 0, r),
-        name_of(path, b"JOURNAL"),
-    )
-}
-
-fn tell_difference(
-    system: &System,
-    path: &[u8],
-    text: &[u8],
-    calendar: &[u8],
-    given: &[u8],
-    register: &[u8],
-    found: Found,
-) -> i32 {
-    let mut out = system::large_buffer();
-    let at = text::put(
-        &mut out,
-        0,
-        b"the register is not what its journal gives\n  ",
-    );
-    let at = audit::difference(&mut out, at, given, register);
-    let at = text::put(&mut out, at, b"the journal: ");
-    let at = put_way(
-        system, &mut out, at, path, text, calendar, given, register, found,
-    );
-    let end = text::put_byte(&mut out, at, b'\n');
-    say(system, Stream::Error, &out, end, REFUSED)
+    let mut again = space::zeros::<REGISTER_LENGTH>();
+    let sought = matching::run(text, given.calendar, &mut again, Some(register.bytes));
+    let is_passed = sought.is_ok_and(|found| found.passed);
+    Way::between(given, register, is_passed, true)
 }
 
 // Holds the register of word 4 against the one that is given.
 pub fn audit(
-    system: &System,
-    path: &[u8],
+    journal: Journal<'_>,
     text: &[u8],
-    calendar: &[u8],
-    given: &[u8],
-    found: Found,
-) -> i32 {
-    let mut register = space::register();
-    if !terminal::file(system, 4, &mut register) {
-        return TROUBLE;
-    }
-    if text::same(given, &register) {
-        let mut out = [0u8; 64];
-        let end = text::put(
-            &mut out,
-            0,
-            b"the register is exactly what its journal gives\n",
+    last: Option<Last<'_>>,
+    given: Register<'_>,
+) -> Result<Status, Trouble> {
+    let Journal { system, path } = journal;
+    let mut register = space::zeros::<REGISTER_LENGTH>();
+    terminal::file(system, 4, &mut register)?;
+    if register.as_slice() == given.bytes {
+        return terminal::say(
+            system,
+            Stream::Output,
+            "the register is exactly what its journal gives\n",
+            Status::Done,
         );
-        return say(system, Stream::Output, &out, end, DONE);
     }
-    tell_difference(system, path, text, calendar, given, &register, found)
+    let register = Register {
+        calendar: given.calendar,
+        bytes: &register,
+    };
+    let calendar_name = commands::word(system, 2);
+    let register_name = commands::word(system, 4);
+    let names = Names {
+        calendar: calendar_name.as_bytes(),
+        register: register_name.as_bytes(),
+        // one that was read from a standard stream has no name here
+        journal: if path == b"-".as_slice() {
+            b"JOURNAL"
+        } else {
+            path
+        },
+    };
+    let mut out = Text::<65536>::new();
+    out.put(b"the register is not what its journal gives\n  ");
+    out.say(Difference { given, register });
+    out.put(b"the journal: ");
+    way_between(text, last, given, register).put(&mut out, names, None);
+    out.put(b"\n");
+    terminal::say_bytes(system, Stream::Error, out.as_bytes(), Status::Refused)
 }

@@ -1,144 +1,116 @@
 // The register of a replay, put in place: never an empty one, and another one is replaced only where that is asked for.
-use commands::FORCE;
-use files::Installed;
-use phrases::fill;
-use system::{File, Stream, System};
-use terminal::{DONE, TROUBLE, say};
+use commands::Opt;
+use files::{NewFile, Target, Trouble};
+use keeping::Journal;
+use layout::REGISTER_LENGTH;
+use reading::Register;
+use report::Glance;
+use std::fmt;
+use std::fmt::Display;
+use system::{Stream, System};
+use terminal::Status;
+use text::Date;
+
+// Its day, and how much it has.
+#[derive(Clone, Copy)]
+struct Size<'a>(Register<'a>);
+
+impl Display for Size<'_> {
+    fn fmt<W: fmt::Write>(&self, f: &mut fmt::Formatter<W>) -> fmt::Result {
+        let day = Date(self.0.day());
+        let rows = self.0.row_count();
+        let waiting = self.0.waiting();
+        write!(f, "{day}, {rows} rows, {waiting} waiting")
+    }
+}
 
 // What a register is that would be replaced.
-fn put_standing(out: &mut [u8], at: usize, calendar: &[u8], register: &[u8]) -> usize {
-    if reading::cause(calendar, register) != 0 {
-        return text::put(out, at, b"a register of another calendar, or a damaged one");
+#[derive(Clone, Copy)]
+struct Replaced<'a>(Register<'a>);
+
+impl Display for Replaced<'_> {
+    fn fmt<W: fmt::Write>(&self, f: &mut fmt::Formatter<W>) -> fmt::Result {
+        if self.0.refusal().is_err() {
+            return f.write_str("a register of another calendar, or a damaged one");
+        }
+        let size = Size(self.0);
+        write!(f, "a register that stands at {size}")
     }
-    fill(
-        out,
-        at,
-        b"a register that stands at %d, %n rows, %n waiting",
-        [
-            reading::day(register),
-            reading::row_count(register),
-            reading::waiting(register),
-            0,
-            0,
-            0,
-        ],
+}
+
+fn complain(system: &System, path: &[u8], old: Register<'_>, new: Register<'_>) -> Trouble {
+    let old = Replaced(old);
+    let new = Size(new);
+    files::complain(
+        system,
+        path,
+        format_args!(
+            "it is {old}; the journal gives {new}\n  if that is to replace it, add --force"
+        ),
     )
-}
-
-fn complain(system: &System, path: &[u8], calendar: &[u8], old: &[u8], new: &[u8]) {
-    let mut out = system::buffer();
-    let at = text::put(&mut out, 0, b"it is ");
-    let at = put_standing(&mut out, at, calendar, old);
-    let end = fill(
-        &mut out,
-        at,
-        b"; the journal gives %d, %n rows, %n waiting\n  if that is to replace it, add --force",
-        [
-            reading::day(new),
-            reading::row_count(new),
-            reading::waiting(new),
-            0,
-            0,
-            0,
-        ],
-    );
-    files::complain(system, path, text::part(&out, 0, end));
-}
-
-fn tell(system: &System, out: &mut [u8], at: usize, calendar: &[u8], register: &[u8]) -> i32 {
-    let end = report::show(out, at, calendar, register);
-    terminal::tell(system, out, end, b"the register")
 }
 
 // Puts the new register in place and tells it, behind the one that it replaced.
 fn put_in_place(
     system: &System,
-    opened: File,
-    path: &[u8],
-    beside: &[u8],
-    calendar: &[u8],
-    old: &[u8],
-    new: &[u8],
-) -> i32 {
-    if !files::save(system, opened, path, beside, new) {
-        return TROUBLE;
+    opened: NewFile<'_>,
+    old: Register<'_>,
+    new: Register<'_>,
+) -> Result<Status, Trouble> {
+    opened.save(system, new.bytes)?.install(system, "")?;
+    let glance = Glance(new);
+    if layout::is_zero(old.bytes) {
+        return terminal::tell(system, glance, "the register");
     }
-    let installed = files::install(system, path, beside, b"");
-    let Installed::Done = installed else {
-        return TROUBLE;
-    };
-    let mut out = system::buffer();
-    if layout::is_zero(old) {
-        return tell(system, &mut out, 0, calendar, new);
-    }
-    let at = text::put(&mut out, 0, b"replaced: ");
-    let at = put_standing(&mut out, at, calendar, old);
-    let at = text::put(&mut out, at, b"\n\n");
-    tell(system, &mut out, at, calendar, new)
-}
-
-fn keep_as_it_is(system: &System, calendar: &[u8], register: &[u8]) -> i32 {
-    let mut out = system::buffer();
-    let at = text::put(
-        &mut out,
-        0,
-        b"the register was already what its journal gives\n\n",
-    );
-    let end = report::show(&mut out, at, calendar, register);
-    say(system, Stream::Output, &out, end, DONE)
+    let old = Replaced(old);
+    terminal::tell(
+        system,
+        format_args!("replaced: {old}\n\n{glance}"),
+        "the register",
+    )
 }
 
 // Over the register that is there, locked by this run. One that is empty, as a missing one, has nothing to lose.
 fn replace_old(
     system: &System,
-    opened: File,
+    opened: NewFile<'_>,
     path: &[u8],
-    beside: &[u8],
-    calendar: &[u8],
-    old: &[u8],
-    new: &[u8],
-) -> i32 {
-    if text::same(old, new) {
-        files::release(system, opened, beside);
-        return keep_as_it_is(system, calendar, new);
+    old: Register<'_>,
+    new: Register<'_>,
+) -> Result<Status, Trouble> {
+    if old.bytes == new.bytes {
+        opened.release(system);
+        let glance = Glance(new);
+        return terminal::say(
+            system,
+            Stream::Output,
+            format_args!("the register was already what its journal gives\n\n{glance}"),
+            Status::Done,
+        );
     }
-    if layout::is_zero(old) || commands::has(system, FORCE) {
-        return put_in_place(system, opened, path, beside, calendar, old, new);
+    if layout::is_zero(old.bytes) || commands::has(system, Opt::Force) {
+        return put_in_place(system, opened, old, new);
     }
-    files::release(system, opened, beside);
-    complain(system, path, calendar, old, new);
-    TROUBLE
-}
-
-fn replace_named(system: &System, path: &[u8], calendar: &[u8], new: &[u8]) -> i32 {
-    let mut name = system::buffer();
-    let end = files::beside(system, path, &mut name);
-    let beside = text::part(&name, 0, end);
-    let Some(opened) = files::lock(system, path, beside) else {
-        return TROUBLE;
-    };
-    let mut old = space::register();
-    if terminal::register_or_none(system, path, &mut old) {
-        return replace_old(system, opened, path, beside, calendar, &old, new);
-    }
-    files::release(system, opened, beside);
-    TROUBLE
+    opened.release(system);
+    Err(complain(system, path, old, new))
 }
 
 // Writes the register that a journal gives to the file of word 4.
-pub fn replace(system: &System, journal: &[u8], calendar: &[u8], new: &[u8]) -> i32 {
-    if layout::is_zero(new) {
-        files::complain(
-            system,
-            journal,
-            b"none of its calls is accepted: it gives an empty register",
-        );
-        return TROUBLE;
+pub fn replace(journal: Journal<'_>, new: Register<'_>) -> Result<Status, Trouble> {
+    if layout::is_zero(new.bytes) {
+        return Err(journal.complain("none of its calls is accepted: it gives an empty register"));
     }
-    let mut path = system::buffer();
-    let end = terminal::followed(system, 4, &mut path);
-    if end == 0 {
-        return TROUBLE;
+    let system = journal.system;
+    let target = Target::new(system, terminal::followed(system, 4)?)?;
+    let opened = target.lock(system, None)?;
+    let mut old = space::zeros::<REGISTER_LENGTH>();
+    if let Err(trouble) = terminal::register_or_none(system, target.path(), &mut old) {
+        opened.release(system);
+        return Err(trouble);
     }
-    replace_named(system, text::part(&path, 0, end), calendar, new)
+    let old = Register {
+        calendar: new.calendar,
+        bytes: &old,
+    };
+    replace_old(system, opened, target.path(), old, new)
 }

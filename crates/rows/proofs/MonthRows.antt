@@ -12,7 +12,12 @@ use lib.ListN.{length, get_or, take, drop, replicate, length-append, length-drop
 use lib.Seq.{take_at, drop_at, drop-drop, drop-cons, get_or-drop}
 use borrow.Author.Tests.{eqb-true, eq-eqb, ne_eqb, lt-ltb, le-ltb, not-false}
 use Rattle.base.specs.Lists.{elem}
+use Rattle.std.specs.Prelude.{Result, Ok, Err}
 use Rattle.base.specs.Causes.{cause}
+use Rattle.base.specs.Numbers.{number_of as number_of_cause, number_in}
+use Rattle.base.specs.declared.causes.Cause.{Cause}
+use Rattle.base.specs.declared.causes.Cause.TheVariants.{RowsMonth}
+use Rattle.base.proofs.NumberLaws.{number-from}
 use Rattle.base.proofs.Tests.{by_bool, or_e, or_fl, or_fr}
 use Rattle.base.proofs.CauseLaws.{not-cause, alone}
 use Rattle.base.proofs.ListLaws.{elem-here, elem_there}
@@ -35,7 +40,11 @@ use Rattle.grid.proofs.Runs.{run_is}
 use Rattle.scan.proofs.Found.{SpanHeld, spanned}
 use Rattle.layout.proofs.Running.{Running, runs}
 use Rattle.register.proofs.Well.{run-held, rows_behind}
-use Rattle.layout.proofs.OpeningLaws.{none-opened, Refused, Reads, reads_own, refused_own, stands_else}
+use Rattle.layout.specs.Opening.{Refused, Reads}
+use Rattle.layout.proofs.OpeningLaws.{none-opened, reads_own, refused_own, stands_else}
+use Rattle.calls.specs.Results.{place_of}
+use Rattle.calls.specs.declared.Part.{Part}
+use Rattle.calls.specs.declared.Place.{Place}
 use Rattle.layout.proofs.RowLaws.{ladder-length}
 
 -- ---- the loop over the months, from the i-th on
@@ -179,9 +188,9 @@ spans-order f b h i l = each-order f b h.low h.high (live_months f) (spanned f b
 
 -- ---- the rows call
 module _ (cal bs : List ℕ) (m : ℕ) where
-  pub rows-refused : {n k : ℕ} → Refused cal bs (rows_cause (rules cal) m (reg_of bs)) n k → no_rows n ≡ rows_place (rules cal) bs m
+  pub rows-refused : {why : Cause} → Refused cal bs (rows_cause (rules cal) m (reg_of bs)) why → place_of (Err why) ≡ rows_place (rules cal) bs m
   unfolding rows_place rows_number
-  rows-refused {n} x = rw (x.says, ne_eqb n 0 x.some)
+  rows-refused {why} x = rw (x.says, ne_eqb (number_of_cause why) 0 (λ z. omega (arith, number-from why, z)))
 
   own_is : rows_cause (rules cal) m (running (body_of bs)) ≡ cause (not (elem m (live_months (first_at cal (moment_of bs))))) 26
   unfolding rows_cause rules body_of
@@ -199,7 +208,7 @@ module _ (cal bs : List ℕ) (m : ℕ) where
       (λ e.
       let z : rows_number (rules cal) bs m ≡ 0 = reads_own cal bs (running b) x own ∙ own_is ∙ rw e in
       placed f m b h.low h.high h.entry (live_months f) rows_from (spanned f b h) (live_rises f) e ∙ rw (z, ← h.rows_are))
-      (λ e. not_placed f m b (live_months f) rows_from e ∙ rows-refused (refused_own cal bs (running b) x own 26 (sym (own_is ∙ rw e)) (λ z. omega arith) (λ z. omega arith)))
+      (λ e. not_placed f m b (live_months f) rows_from e ∙ rows-refused (refused_own cal bs (running b) x own RowsMonth (sym (own_is ∙ rw e)) (λ z. omega arith)))
 
   -- ---- what lies at that place
 
@@ -239,7 +248,7 @@ module _ (cal bs : List ℕ) (m : ℕ) where
       }
 
   -- the bytes at the place of the rows call are its part, for every register
-  pub place_part : let p = rows_place (rules cal) bs m in take p.size (drop p.at bs) ≡ rows_part (rules cal) bs m
+  place_part : let p = rows_place (rules cal) bs m in take p.size (drop p.at bs) ≡ rows_part (rules cal) bs m
   unfolding rows_place rows_part
   place_part =
       by_bool (eqb (rows_number (rules cal) bs m) 0)
@@ -247,9 +256,26 @@ module _ (cal bs : List ℕ) (m : ℕ) where
       (λ z. rw z)
 
   -- and they lie inside it
-  pub place_inside : let p = rows_place (rules cal) bs m in p.at + p.size ≤ length bs
+  place_inside : let p = rows_place (rules cal) bs m in p.at + p.size ≤ length bs
   unfolding rows_place
   place_inside =
       by_bool (eqb (rows_number (rules cal) bs m) 0)
       (λ z. rw z (there (eqb-true _ _ z)).inside)
       (λ z. rw z (omega arith))
+
+  -- ---- the same of a result
+  module _ (part : Part) (e : place_of (Ok part) ≡ rows_place (rules cal) bs m) where
+    pub part-inside : part.at + part.size ≤ length bs
+    part-inside = rw (← e) at place_inside
+
+    pub part_is : take part.size (drop part.at bs) ≡ rows_part (rules cal) bs m
+    part_is = rw (← e) at place_part
+
+  module _ (why : Cause) (e : place_of (Err why) ≡ rows_place (rules cal) bs m) where
+    pub part_none : [] ≡ rows_part (rules cal) bs m
+    part_none = rw (← e) at place_part
+
+  pub number-placed : (r : Result Part Cause) → place_of r ≡ rows_place (rules cal) bs m → number_in r ≡ rows_number (rules cal) bs m
+  unfolding rows_place
+  number-placed (Ok part) e = ap (λ (p : Place). p.number) e
+  number-placed (Err why) e = ap (λ (p : Place). p.number) e

@@ -4,6 +4,7 @@ use mathlib.Core.Path.{◌≡◌, refl, sym, ap, ◌∙◌}
 use mathlib.Core.Bool.{true, false, cond, ◌&&◌, false≢true}
 use mathlib.Core.List.{List, [], ◌∷◌, ◌++◌, append-nil}
 use mathlib.Core.Logic.{◌⊎◌, inl, inr, ⊎_elim}
+use Rattle.std.specs.Prelude.{Some, None}
 use Prim.Native.Nat.{ℕ, zero, suc, ◌+◌, ◌-◌, ◌*◌, ◌/◌, ◌%◌, ◌≤◌, ◌<◌}
 use native.Mathlib.Nat.{mul-suc, mul-zero}
 use native.Mathlib.Omega.{arith}
@@ -23,7 +24,7 @@ use Rattle.base.proofs.Rising.{select_rises}
 use Rattle.rules.proofs.RulebookLaws.{grid_rises}
 use Rattle.layout.specs.Rows.{Entry, new_entry, Row, ladder, rows_of, entry_ok}
 use Rattle.layout.specs.Register.{Body, span_low, span_high, same_keys, entries_ok}
-use Rattle.layout.specs.Spans.{no_spans, spans_of}
+use Rattle.layout.specs.Spans.{spans_of}
 use Rattle.scan.specs.Scan.{fitting, climbed, head_price, ladder_rows, ladder_spans}
 use Rattle.layout.proofs.RowLaws.{rows_of_same}
 use Rattle.layout.proofs.Held.{ladder_of, Held, least-held, greatest-held, Apart, live_apart, keyed}
@@ -172,7 +173,7 @@ module _ (day f : ℕ) where
       (number_of p, k.0, rw q at c))
       (λ g. absurd (let z : 0 ≡ suc n = rw g at e in omega arith))
 
-  pub find_ladders : (done : List (List ℕ)) (ms : List ℕ) (rs : List Row) → Apart ms → (ladder_spans day f done ms rs ≡ no_spans) ⊎ LaddersFound day f ms rs
+  pub find_ladders : (done : List (List ℕ)) (ms : List ℕ) (rs : List Row) → Apart ms → (ladder_spans day f done ms rs ≡ None) ⊎ LaddersFound day f ms rs
   unfolding ladder_spans same_keys rows_of entries_ok elem
   find_ladders done [] [] a =
       inr (record {
@@ -188,8 +189,8 @@ module _ (day f : ℕ) where
   find_ladders done (m ∷ ms) rs a = go (ladder_rows day m (tier_of f m) rs) refl (λ spans n. find_ladders spans ms (drop n rs) a.1)
     where
       go : (n : ℕ) → ladder_rows day m (tier_of f m) rs ≡ n
-          → ((spans : List (List ℕ)) (n : ℕ) → (ladder_spans day f spans ms (drop n rs) ≡ no_spans) ⊎ LaddersFound day f ms (drop n rs))
-          → (cond (eqb n 0) no_spans (ladder_spans day f (done ++ ((head_price rs ∷ head_price (drop (n - 1) rs) ∷ []) ∷ [])) ms (drop n rs)) ≡ no_spans) ⊎ LaddersFound day f (m ∷ ms) rs
+          → ((spans : List (List ℕ)) (n : ℕ) → (ladder_spans day f spans ms (drop n rs) ≡ None) ⊎ LaddersFound day f ms (drop n rs))
+          → (cond (eqb n 0) None (ladder_spans day f (done ++ ((head_price rs ∷ head_price (drop (n - 1) rs) ∷ []) ∷ [])) ms (drop n rs)) ≡ None) ⊎ LaddersFound day f (m ∷ ms) rs
       go zero e next = inl refl
       go (suc n) e next =
           let k = stands-first m rs n e in
@@ -205,9 +206,9 @@ module _ (day f : ℕ) where
   module _ (low high : ℕ → ℕ) (entry : ℕ → ℕ → Entry) (b : Body) where
     ladders_found : (done : List (List ℕ)) (ms : List ℕ) → ((m : ℕ) → elem m ms ≡ true → SpanHeld f b low high m) → Apart ms
         → entries_ok day (rows_of ms (ladder_of f low high) entry) ≡ true
-        → ladder_spans day f done ms (rows_of ms (ladder_of f low high) entry) ≡ done ++ spans_of b ms
+        → ladder_spans day f done ms (rows_of ms (ladder_of f low high) entry) ≡ Some (done ++ spans_of b ms)
     unfolding ladder_spans rows_of spans_of
-    ladders_found done [] h a k = sym (append-nil done)
+    ladders_found done [] h a k = ap Some (sym (append-nil done))
     ladders_found done (m ∷ ms) h a k =
         let t : Tier = tier_of f m in
         let s : ℕ = stride t in
@@ -231,7 +232,7 @@ module _ (day f : ℕ) where
           behind m t (entry m) rest j (suc n),
         )
         (ladders_found (done ++ ((price j ∷ price (high m) ∷ []) ∷ [])) ms (λ k q. h k (elem_there k m ms q)) a.1 e.1
-        ∙ append_snoc done (price j ∷ price (high m) ∷ []) (spans_of b ms) ∙ rw (w.span-low, w.span-high))
+        ∙ ap Some (append_snoc done (price j ∷ price (high m) ∷ []) (spans_of b ms) ∙ rw (w.span-low, w.span-high)))
 
 -- ---- all six
 unfoldable pub held_found : (day f : ℕ) (rs : List Row) → LaddersFound day f (live_months f) rs → Held f rs
@@ -258,7 +259,7 @@ spanned f b h m e = record {
   span-high = greatest-held f b.rows h m e;
 }
 
-pub spans-held : (day f : ℕ) (b : Body) → Held f b.rows → entries_ok day b.rows ≡ true → ladder_spans day f [] (live_months f) b.rows ≡ spans_of b (live_months f)
+pub spans-held : (day f : ℕ) (b : Body) → Held f b.rows → entries_ok day b.rows ≡ true → ladder_spans day f [] (live_months f) b.rows ≡ Some (spans_of b (live_months f))
 spans-held day f b h k =
     ap (ladder_spans day f [] (live_months f)) h.rows_are
     ∙ ladders_found day f h.low h.high h.entry b [] (live_months f) (spanned f b h) (live_apart f) (sym (ap (entries_ok day) h.rows_are) ∙ k)

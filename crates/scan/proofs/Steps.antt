@@ -1,15 +1,20 @@
 -- One step of each scan of Scan.antt, as the loops take it.
 -- Assumes nothing.
-use mathlib.Core.Path.{◌≡◌, refl, ap}
+use mathlib.Core.Path.{◌≡◌, refl, sym, ap}
 use mathlib.Core.Bool.{true, false, ◌&&◌}
-use mathlib.Core.List.{List, [], ◌∷◌, ◌++◌}
+use mathlib.Core.List.{List, [], ◌∷◌, ◌++◌, map}
 use Prim.Native.Nat.{ℕ, zero, suc, ◌+◌, ◌-◌, ◌*◌, ◌≤◌, ◌<◌}
 use native.Mathlib.Numerals.{add-one}
 use native.Mathlib.Omega.{arith}
-use lib.Dec.{leb, eqb, ltb}
-use lib.ListN.{length, get_or, drop}
+use lib.Dec.{leb, eqb, ltb, eqb-suc-zero}
+use lib.ListN.{length, get_or, take, drop, length-map}
+use Rattle.std.specs.Prelude.{Some, None, slice_get}
+use Rattle.std.specs.Bool.{then_some}
+use Rattle.std.specs.Simd.{first_chunks}
+use Rattle.std.proofs.lemmas.List.{drop_more, drop_all, drop-map}
+use Rattle.std.proofs.lemmas.Option.{none-some, same_Some}
 use lib.Seq.{drop-cons}
-use borrow.Author.Tests.{eqb-true, eq-eqb, ne_eqb, lt-ltb, le-ltb, le-leb, lt-leb}
+use borrow.Author.Tests.{eqb-true, eq-eqb, ne_eqb, lt-ltb, le-ltb, le-leb, leb-true}
 use Rattle.base.specs.Lists.{elem, within}
 use Rattle.base.specs.declared.Tier.{Tier}
 use Rattle.base.proofs.Tests.{by_bool}
@@ -18,60 +23,83 @@ use Rattle.grid.specs.Grid.{grid_of}
 use Rattle.grid.specs.Numbers.{stride, band_step}
 use Rattle.layout.specs.Rows.{Row, entry_ok}
 use Rattle.base.specs.Words.{at16}
-use Rattle.layout.specs.Spans.{no_spans}
-use Rattle.scan.specs.Scan.{row_at, rows_at, fitting, climbed, head_price, ladder_rows, ladder_spans}
-use Rattle.base.proofs.Loops.{start_of}
+use Rattle.layout.proofs.Chunks.{at16-take}
+use Rattle.scan.specs.Scan.{scanned, rows_at, fitting, climbed, head_price, ladder_rows, some_rows, ladder_spans}
 
 -- ---- rows
-pub rows_none : (bs : List ℕ) (at n : ℕ) → n ≤ 0 → rows_at bs at n ≡ []
-unfolding rows_at
-rows_none bs at zero h = refl
-rows_none bs at (suc n) h = absurd (omega arith)
+pub next-row : (xs : List (List ℕ)) (i : ℕ) → i < length xs → map scanned (drop i xs) ≡ scanned (get_or xs i []) ∷ map scanned (drop (i + 1) xs)
+next-row xs i h = ap (map scanned) (drop_more xs i [] h)
 
-pub rows_some : (bs : List ℕ) (at n : ℕ) → 0 < n → rows_at bs at n ≡ row_at bs at ∷ rows_at bs (at + 8) (n - 1)
+pub no-row : (xs : List (List ℕ)) (i : ℕ) → length xs ≤ i → map scanned (drop i xs) ≡ []
+no-row xs i h = ap (map scanned) (drop_all i xs h)
+
+pub none-first : (xs : List (List ℕ)) → None ≡ slice_get xs 0 → map scanned xs ≡ []
+none-first [] e = refl
+none-first (x ∷ xs) e = absurd (none-some x e)
+
+pub some-first : (xs : List (List ℕ)) (x : List ℕ) → Some x ≡ slice_get xs 0 → map scanned xs ≡ scanned x ∷ map scanned (drop 1 xs)
+some-first [] x e = absurd (none-some x (sym e))
+some-first (y ∷ xs) x e = rw (same_Some x y e)
+
+scanned-front : (xs : List ℕ) → scanned (take 8 xs) ≡ scanned xs
+scanned-front xs =
+    rw (at16-take 8 0 xs (omega arith), at16-take 8 2 xs (omega arith), at16-take 8 4 xs (omega arith), at16-take 8 6 xs (omega arith))
+
+-- the rows of a register as the scan is lent them
+pub rows_scanned : (n : ℕ) (xs : List ℕ) → map scanned (first_chunks 8 n xs) ≡ rows_at n xs
 unfolding rows_at
-rows_some bs at zero h = absurd (omega arith)
-rows_some bs at (suc n) h = let e : suc n - 1 ≡ n = omega arith in rw e
+rows_scanned zero xs = refl
+rows_scanned (suc n) xs = rw (scanned-front xs, rows_scanned n (drop 8 xs))
 
 -- ---- whether a row fits
 module _ (day m p : ℕ) (r : Row) where
+  fits_by : ((eqb r.month m ≡ true) → (eqb r.price p ≡ true) → (leb r.entry.first day ≡ true) → (leb 1 r.entry.origin ≡ true) → leb r.entry.origin 5 ≡ false) → fitting day m p r ≡ false
+  unfolding fitting entry_ok within
+  fits_by h =
+      by_bool (eqb r.month m) (λ a.
+      by_bool (eqb r.price p) (λ b.
+      by_bool (leb r.entry.first day) (λ d.
+      by_bool (leb 1 r.entry.origin) (λ o. rw (a, b, d, o, h a b d o)) (λ o. rw (a, b, d, o)))
+      (λ d. rw (a, b, d)))
+      (λ b. rw (a, b)))
+      (λ a. rw a)
+
   pub fits_not : (r.month ≡ m → r.price ≡ p → ⊥) → fitting day m p r ≡ false
-  unfolding fitting
-  fits_not h =
-      by_bool (eqb r.month m)
-      (λ e. by_bool (eqb r.price p)
-      (λ g. absurd (h (eqb-true r.month m e) (eqb-true r.price p g)))
-      (λ g. rw (e, g)))
-      (λ e. rw e)
+  fits_not h = fits_by (λ a b d o. absurd (h (eqb-true r.month m a) (eqb-true r.price p b)))
 
-  module _ (e : r.month ≡ m) (g : r.price ≡ p) where
-    pub fits_late : day < r.entry.first → fitting day m p r ≡ false
-    unfolding fitting entry_ok
-    fits_late h = rw (eq-eqb r.month m e, eq-eqb r.price p g, lt-leb r.entry.first day h)
+  pub fits_late : day < r.entry.first → fitting day m p r ≡ false
+  fits_late h = fits_by (λ a b d o. let l = leb-true r.entry.first day d in absurd (omega arith))
 
-    module _ (h : r.entry.first ≤ day) where
-      pub fits_none : r.entry.origin < 1 → fitting day m p r ≡ false
-      unfolding fitting entry_ok within
-      fits_none l = rw (eq-eqb r.month m e, eq-eqb r.price p g, le-leb r.entry.first day h, lt-leb 1 r.entry.origin l)
+  pub fits_no_origin : r.entry.origin < 1 → fitting day m p r ≡ false
+  fits_no_origin h = fits_by (λ a b d o. let l = leb-true 1 r.entry.origin o in absurd (omega arith))
 
-      pub fits-origin : 1 ≤ r.entry.origin → fitting day m p r ≡ leb r.entry.origin 5
-      unfolding fitting entry_ok within
-      fits-origin l = rw (eq-eqb r.month m e, eq-eqb r.price p g, le-leb r.entry.first day h, le-leb 1 r.entry.origin l)
+  pub fits-origin : r.month ≡ m → r.price ≡ p → r.entry.first ≤ day → 1 ≤ r.entry.origin → fitting day m p r ≡ leb r.entry.origin 5
+  unfolding fitting entry_ok within
+  fits-origin a b d l = rw (eq-eqb r.month m a, eq-eqb r.price p b, le-leb r.entry.first day d, le-leb 1 r.entry.origin l)
 
 -- ---- up a ladder
-module _ (day m s p : ℕ) (bs : List ℕ) (at n : ℕ) where
-  pub climbed_end : n ≤ 0 → climbed day m s p (rows_at bs at n) ≡ 0
+module _ (day m s p : ℕ) (r : Row) (rs : List Row) (l : p < 10000) where
+  pub climbed_stop : fitting day m p r ≡ false → climbed day m s p (r ∷ rs) ≡ 0
   unfolding climbed
-  climbed_end h = rw (rows_none bs at n h)
+  climbed_stop e = rw (lt-ltb p 10000 l, e)
 
-  pub climbed_stop : 0 < n → p < 10000 → fitting day m p (row_at bs at) ≡ false → climbed day m s p (rows_at bs at n) ≡ 0
+  pub climbed-more : fitting day m p r ≡ true → climbed day m s p (r ∷ rs) ≡ suc (climbed day m s (p + s * band_step p) rs)
   unfolding climbed
-  climbed_stop h l e = rw (rows_some bs at n h, lt-ltb p 10000 l, e)
+  climbed-more e = rw (lt-ltb p 10000 l, e)
 
-  pub climbed-more : 0 < n → p < 10000 → fitting day m p (row_at bs at) ≡ true
-      → climbed day m s p (rows_at bs at n) ≡ suc (climbed day m s (p + s * band_step p) (rows_at bs (at + 8) (n - 1)))
-  unfolding climbed
-  climbed-more h l e = rw (rows_some bs at n h, lt-ltb p 10000 l, e)
+-- at the n-th row, where those before it went up from the lowest price
+module _ (day m s low p n : ℕ) (xs : List (List ℕ)) (h : n < length xs) (l : p < 10000)
+    (passed : climbed day m s low (map scanned xs) ≡ n + climbed day m s p (map scanned (drop n xs))) where
+  pub climb_stops : fitting day m p (scanned (get_or xs n [])) ≡ false → n ≡ climbed day m s low (map scanned xs)
+  climb_stops e = omega (arith, passed, ap (climbed day m s p) (next-row xs n h), climbed_stop day m s p (scanned (get_or xs n [])) (map scanned (drop (n + 1) xs)) l e)
+
+  pub climb-goes : fitting day m p (scanned (get_or xs n [])) ≡ true
+      → climbed day m s low (map scanned xs) ≡ n + 1 + climbed day m s (p + s * band_step p) (map scanned (drop (n + 1) xs))
+  climb-goes e = omega (arith, passed, ap (climbed day m s p) (next-row xs n h), climbed-more day m s p (scanned (get_or xs n [])) (map scanned (drop (n + 1) xs)) l e)
+
+pub climbed_end : (day m s p : ℕ) → climbed day m s p [] ≡ 0
+unfolding climbed
+climbed_end day m s p = refl
 
 pub climbed_top : (day m s p : ℕ) (rs : List Row) → 10000 ≤ p → climbed day m s p rs ≡ 0
 unfolding climbed
@@ -83,24 +111,6 @@ pub six_months : (f : ℕ) (ms : List ℕ) → ms ≡ live_months f → length m
 unfolding live_months
 six_months f ms e = ap length e
 
-rows_drop : (bs : List ℕ) (at n k : ℕ) → drop k (rows_at bs at n) ≡ rows_at bs (at + 8 * k) (n - k)
-unfolding rows_at
-rows_drop bs at n zero = start_of (λ n p. rows_at bs p n) 8 n at
-rows_drop bs at zero (suc k) = let e : 0 - suc k ≡ 0 = omega arith in rw e
-rows_drop bs at (suc n) (suc k) =
-    let e : suc n - suc k ≡ n - k = omega arith in
-    let f : at + 8 * suc k ≡ at + 8 + 8 * k = omega arith in
-    rw (e, f) (rows_drop bs (at + 8) n k)
-
-rows-size : (bs : List ℕ) (at n : ℕ) → length (rows_at bs at n) ≡ n
-unfolding rows_at
-rows-size bs at zero = refl
-rows-size bs at (suc n) = ap suc (rows-size bs (at + 8) n)
-
-head-price : (bs : List ℕ) (at n : ℕ) → 0 < n → head_price (rows_at bs at n) ≡ at16 bs (at + 2)
-unfolding head_price
-head-price bs at n h = rw (rows_some bs at n h)
-
 climbed-short : (day m s p : ℕ) (rs : List Row) → climbed day m s p rs ≤ length rs
 unfolding climbed
 climbed-short day m s p [] = omega arith
@@ -108,56 +118,74 @@ climbed-short day m s p (r ∷ rs) =
     let h = climbed-short day m s (p + s * band_step p) rs in
     by_bool (ltb p 10000 && fitting day m p r) (λ e. rw e (omega arith)) (λ e. rw e (omega arith))
 
-module _ (day m : ℕ) (t : Tier) (bs : List ℕ) (at n : ℕ) where
-  pub ladder_end : n ≤ 0 → ladder_rows day m t (rows_at bs at n) ≡ 0
+module _ (day m : ℕ) (t : Tier) where
+  pub ladder_end : ladder_rows day m t [] ≡ 0
   unfolding ladder_rows climbed
-  ladder_end h = rw (rows_none bs at n h) (by_bool (elem (head_price []) (grid_of t)) (λ e. rw e) (λ e. rw e))
+  ladder_end = by_bool (elem (head_price []) (grid_of t)) (λ e. rw e) (λ e. rw e)
 
-  module _ (h : 0 < n) where
-    pub ladder_off : elem (at16 bs (at + 2)) (grid_of t) ≡ false → ladder_rows day m t (rows_at bs at n) ≡ 0
-    unfolding ladder_rows
-    ladder_off e = rw (head-price bs at n h, e)
+  module _ (xs : List (List ℕ)) (x : List ℕ) (first : Some x ≡ slice_get xs 0) where
+    pub ladder_off : elem (at16 x 2) (grid_of t) ≡ false → ladder_rows day m t (map scanned xs) ≡ 0
+    unfolding ladder_rows head_price
+    ladder_off e = rw (some-first xs x first, e)
 
-    pub ladder-on : elem (at16 bs (at + 2)) (grid_of t) ≡ true → ladder_rows day m t (rows_at bs at n) ≡ climbed day m (stride t) (at16 bs (at + 2)) (rows_at bs at n)
-    unfolding ladder_rows
-    ladder-on e = rw (head-price bs at n h, e)
+    pub ladder-on : elem (at16 x 2) (grid_of t) ≡ true → ladder_rows day m t (map scanned xs) ≡ climbed day m (stride t) (at16 x 2) (map scanned xs)
+    unfolding ladder_rows head_price
+    ladder-on e = rw (some-first xs x first, e)
 
-  pub ladder_le : ladder_rows day m t (rows_at bs at n) ≤ n
+  pub ladder_le : (rs : List Row) → ladder_rows day m t rs ≤ length rs
   unfolding ladder_rows
-  ladder_le =
-      let p : ℕ = head_price (rows_at bs at n) in
-      let h = climbed-short day m (stride t) p (rows_at bs at n) in
-      let k = rows-size bs at n in
+  ladder_le rs =
+      let p : ℕ = head_price rs in
+      let h = climbed-short day m (stride t) p rs in
       by_bool (elem p (grid_of t)) (λ e. rw e (omega arith)) (λ e. rw e (omega arith))
 
+-- that many rows, where there are some
+pub some-rows : (k n : ℕ) → Some n ≡ some_rows k → (n ≡ k) × (k ≡ 0 → ⊥)
+some-rows zero n e = absurd (none-some n (sym e))
+some-rows (suc k) n e = let q = same_Some n (suc k) (rw eqb-suc-zero at e) in (q, λ z. omega arith)
+
+pub no-rows : (k : ℕ) → None ≡ some_rows k → k ≡ 0
+no-rows zero e = refl
+no-rows (suc k) e = absurd (none-some (suc k) (rw eqb-suc-zero at e))
+
+pub some-rows-i : (n k : ℕ) → n ≡ k → (n ≡ 0 → ⊥) → Some n ≡ some_rows k
+some-rows-i n k e h = rw (← e, ne_eqb n 0 h)
+
+pub no-rows-i : (n k : ℕ) → n ≡ k → n ≡ 0 → None ≡ some_rows k
+no-rows-i n k e z = rw (← e, z)
+
+-- the price of a row among the rest
+head-price : (xs : List (List ℕ)) (i : ℕ) → i < length xs → head_price (drop i (map scanned xs)) ≡ at16 (get_or xs i []) 2
+unfolding head_price
+head-price xs i h = rw (drop-map scanned i xs, next-row xs i h)
+
 -- the months from the i-th on
-module _ (day f : ℕ) (done : List (List ℕ)) (ms : List ℕ) (i : ℕ) (h : i < length ms) (bs : List ℕ) (at k n : ℕ)
-    (e : n ≡ ladder_rows day (get_or ms i 0) (tier_of f (get_or ms i 0)) (rows_at bs at k)) where
-  pub spans_stop : n ≡ 0 → ladder_spans day f done (drop i ms) (rows_at bs at k) ≡ no_spans
+module _ (day f : ℕ) (done : List (List ℕ)) (ms : List ℕ) (i : ℕ) (h : i < length ms) (xs : List (List ℕ)) (k : ℕ)
+    (e : k ≡ ladder_rows day (get_or ms i 0) (tier_of f (get_or ms i 0)) (map scanned xs)) where
+  pub spans_stop : k ≡ 0 → ladder_spans day f done (drop i ms) (map scanned xs) ≡ None
   unfolding ladder_spans
   spans_stop z = rw (drop-cons ms i 0 h, ← e, z)
 
-  pub spans-more : (n ≡ 0 → ⊥) → ladder_spans day f done (drop i ms) (rows_at bs at k)
-      ≡ ladder_spans day f (done ++ ((at16 bs (at + 2) ∷ at16 bs (at + 8 * (n - 1) + 2) ∷ []) ∷ [])) (drop (i + 1) ms) (rows_at bs (at + 8 * n) (k - n))
+  pub within_rest : k ≤ length xs
+  within_rest = omega (arith, e, ladder_le day (get_or ms i 0) (tier_of f (get_or ms i 0)) (map scanned xs), length-map xs scanned)
+
+  pub spans-more : (k ≡ 0 → ⊥) → ladder_spans day f done (drop i ms) (map scanned xs)
+      ≡ ladder_spans day f (done ++ ((at16 (get_or xs 0 []) 2 ∷ at16 (get_or xs (k - 1) []) 2 ∷ []) ∷ [])) (drop (i + 1) ms) (map scanned (drop k xs))
   unfolding ladder_spans
   spans-more z =
-      let l : n ≤ k = omega (arith, ladder_le day (get_or ms i 0) (tier_of f (get_or ms i 0)) bs at k) in
+      let l = within_rest in
       rw (
         drop-cons ms i 0 h,
         ← e,
-        ne_eqb n 0 z,
-        rows_drop bs at k n,
-        rows_drop bs at k (n - 1),
-        head-price bs at k (omega arith),
-        head-price bs (at + 8 * (n - 1)) (k - (n - 1)) (omega arith),
+        ne_eqb k 0 z,
+        drop-map scanned k xs,
+        head-price xs 0 (omega arith),
+        head-price xs (k - 1) (omega arith),
         add-one i,
       )
 
-module _ (day f : ℕ) (done : List (List ℕ)) (ms : List ℕ) (e : ms ≡ []) (bs : List ℕ) (at k : ℕ) where
-  pub spans_end : k ≤ 0 → ladder_spans day f done ms (rows_at bs at k) ≡ done
-  unfolding ladder_spans
-  spans_end h = rw (e, rows_none bs at k h)
-
-  pub spans_over : 0 < k → ladder_spans day f done ms (rows_at bs at k) ≡ no_spans
-  unfolding ladder_spans
-  spans_over h = rw (e, rows_some bs at k h)
+-- no month is left: the spans found are all, where no row is left
+pub spans_end : (day f : ℕ) (done : List (List ℕ)) (xs : List (List ℕ)) → then_some (eqb (length xs) 0) done ≡ ladder_spans day f done [] (map scanned xs)
+unfolding ladder_spans
+spans_end day f done [] = refl
+spans_end day f done (x ∷ xs) = rw eqb-suc-zero

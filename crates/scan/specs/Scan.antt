@@ -1,6 +1,6 @@
 -- How the code goes along a register's rows, ladder behind ladder. Contracts of leaves cite this file.
 -- Assumes nothing.
-use Rattle.std.specs.Prelude.{Bool, cond, ◌&&◌, List, [], ◌∷◌, ◌++◌, ℕ, zero, suc, ◌+◌, ◌-◌, ◌*◌, eqb, ltb, drop}
+use Rattle.std.specs.Prelude.{Bool, cond, Option, Some, None, ◌&&◌, List, [], ◌∷◌, ◌++◌, ℕ, zero, suc, ◌+◌, ◌-◌, ◌*◌, eqb, ltb, drop}
 use Rattle.base.specs.Lists.{elem}
 use Rattle.base.specs.declared.Tier.{Tier}
 use Rattle.calendar.specs.Live.{tier_of}
@@ -8,16 +8,15 @@ use Rattle.grid.specs.Grid.{grid_of}
 use Rattle.grid.specs.Numbers.{stride, band_step}
 use Rattle.layout.specs.Rows.{Row, row, entry_ok}
 use Rattle.base.specs.Words.{at16}
-use Rattle.layout.specs.Spans.{no_spans}
 
--- the row at a byte. The byte behind the origin is taken with it: where it is not zero, the origin is not one of the five
-abbrev pub row_at : List ℕ → ℕ → Row
-row_at bs at = row (at16 bs at) (at16 bs (at + 2)) (record { first = at16 bs (at + 4); origin = at16 bs (at + 6) })
+-- a row as it is scanned. The byte behind the origin is taken with it: where it is not zero, the origin is not one of the five
+abbrev pub scanned : List ℕ → Row
+scanned bs = row (at16 bs 0) (at16 bs 2) (record { first = at16 bs 4; origin = at16 bs 6 })
 
--- n rows from a byte on
-unfoldable pub rows_at : List ℕ → ℕ → ℕ → List Row
-rows_at bs at zero = []
-rows_at bs at (suc n) = row_at bs at ∷ rows_at bs (at + 8) n
+-- the first n rows of some bytes
+unfoldable pub rows_at : ℕ → List ℕ → List Row
+rows_at zero bs = []
+rows_at (suc n) bs = scanned bs ∷ rows_at n (drop 8 bs)
 
 -- the row of a month at a price, with an entry that can stand on a day
 unfoldable pub fitting : ℕ → ℕ → ℕ → Row → Bool
@@ -37,11 +36,15 @@ head_price (r ∷ rs) = r.price
 unfoldable pub ladder_rows : ℕ → ℕ → Tier → List Row → ℕ
 ladder_rows day m t rs = cond (elem (head_price rs) (grid_of t)) (climbed day m (stride t) (head_price rs) rs) 0
 
--- the spans found before, and those of some months whose ladders are the rows; where they are not, zeros
-unfoldable pub ladder_spans : ℕ → ℕ → List (List ℕ) → List ℕ → List Row → List (List ℕ)
-ladder_spans day f done [] [] = done
-ladder_spans day f done [] (r ∷ rs) = no_spans
+-- that many rows; none where it is 0
+abbrev pub some_rows : ℕ → Option ℕ
+some_rows n = cond (eqb n 0) None (Some n)
+
+-- the spans found before, and those of some months whose ladders are the rows; none where they are not
+unfoldable pub ladder_spans : ℕ → ℕ → List (List ℕ) → List ℕ → List Row → Option (List (List ℕ))
+ladder_spans day f done [] [] = Some done
+ladder_spans day f done [] (r ∷ rs) = None
 ladder_spans day f done (m ∷ ms) rs =
     let n : ℕ = ladder_rows day m (tier_of f m) rs in
-    cond (eqb n 0) no_spans
+    cond (eqb n 0) None
     (ladder_spans day f (done ++ ((head_price rs ∷ head_price (drop (n - 1) rs) ∷ []) ∷ [])) ms (drop n rs))

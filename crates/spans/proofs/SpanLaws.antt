@@ -1,24 +1,20 @@
 -- Laws of the six spans: a table filled from the front, a month's span among others, spans that agree, and what waits taken in one by one.
 -- Assumes nothing.
 use mathlib.Core.Path.{◌≡◌, refl, sym, ◌∙◌}
-use mathlib.Core.Bool.{true, cond, ◌&&◌, false≢true}
+use mathlib.Core.Bool.{cond}
 use mathlib.Core.List.{List, [], ◌∷◌}
-use Prim.Native.Nat.{ℕ, zero, suc, ◌+◌, ◌-◌, ◌*◌, ◌≤◌, ◌<◌, min, max}
-use native.Mathlib.Nat.{add-suc}
+use Prim.Native.Nat.{ℕ, zero, suc, ◌+◌, ◌≤◌, ◌<◌, min, max}
 use native.Mathlib.Numerals.{add-one}
 use native.Mathlib.Omega.{arith}
 use lib.Dec.{eqb}
 use lib.ListN.{length, get_or, drop, drop_of_length-le}
-use lib.Seq.{drop-cons, drop-drop, get_or-drop, ext_get_or}
-use borrow.Author.Tests.{eqb-true, eq-eqb, ne_eqb}
-use Rattle.base.specs.Lists.{greatest_of}
-use Rattle.base.proofs.Tests.{and_l, and_r}
+use lib.Seq.{drop-cons, ext_get_or}
+use borrow.Author.Tests.{eq-eqb, ne_eqb}
+use Rattle.base.specs.Lists.{least_of, greatest_of}
 use Rattle.base.proofs.ListLaws.{least_step}
 use Rattle.layout.specs.Register.{waiting_of}
-use Rattle.base.specs.Words.{at16}
-use Rattle.layout.specs.Bytes.{read_places}
 use Rattle.layout.specs.Spans.{span_in}
-use Rattle.spans.specs.Spans.{six, announced_pair, same_spans}
+use Rattle.spans.specs.Spans.{six, announced_pair}
 
 -- ---- six in a row
 pub by-six : (P : ℕ → Type 0) → P 0 → P 1 → P 2 → P 3 → P 4 → P 5 → (i : ℕ) → i < 6 → P i
@@ -52,46 +48,7 @@ module _ (ms : List ℕ) (ss : List (List ℕ)) (m i : ℕ) where
   unfolding span_in
   span_none h = rw (drop_of_length-le ms h)
 
--- ---- spans that agree
-module _ (ss ts : List (List ℕ)) (i : ℕ) where
-  pub same_step : i < length ss → i < length ts
-      → same_spans (drop i ss) (drop i ts)
-      ≡ (eqb (get_or (get_or ss i []) 0 0) (get_or (get_or ts i []) 0 0) && (eqb (get_or (get_or ss i []) 1 0) (get_or (get_or ts i []) 1 0) && same_spans (drop (i + 1) ss) (drop (i + 1) ts)))
-  unfolding same_spans
-  same_step h k = rw (drop-cons ss i [] h, drop-cons ts i [] k, add-one)
-
-  pub same_end : length ss ≤ i → length ts ≤ i → same_spans (drop i ss) (drop i ts) ≡ true
-  unfolding same_spans
-  same_end h k = rw (drop_of_length-le ss h, drop_of_length-le ts k)
-
-pub same_at : (ss ts : List (List ℕ)) (i : ℕ) → same_spans ss ts ≡ true
-    → (get_or (get_or ss i []) 0 0 ≡ get_or (get_or ts i []) 0 0) × (get_or (get_or ss i []) 1 0 ≡ get_or (get_or ts i []) 1 0)
-unfolding same_spans
-same_at [] [] i h = (refl, refl)
-same_at [] (t ∷ ts) i h = absurd (false≢true h)
-same_at (s ∷ ss) [] i h = absurd (false≢true h)
-same_at (s ∷ ss) (t ∷ ts) zero h =
-    let k = and_r (eqb (get_or s 0 0) (get_or t 0 0)) _ h in
-    (eqb-true _ _ (and_l (eqb (get_or s 0 0) (get_or t 0 0)) _ h), eqb-true _ _ (and_l (eqb (get_or s 1 0) (get_or t 1 0)) _ k))
-same_at (s ∷ ss) (t ∷ ts) (suc i) h =
-    let k = and_r (eqb (get_or s 0 0) (get_or t 0 0)) _ h in
-    same_at ss ts i (and_r (eqb (get_or s 1 0) (get_or t 1 0)) _ k)
-
 -- ---- what waits
-pub at_drop : (a i : ℕ) (bs : List ℕ) → at16 (drop a bs) i ≡ at16 bs (a + i)
-unfolding at16
-at_drop a i bs = rw (get_or-drop a bs i 0, get_or-drop a bs (suc i) 0, add-suc)
-
-pub places-next : (bs : List ℕ) (n k : ℕ) → k < n
-    → read_places (n - k) (drop (8 + 4 * k) bs)
-    ≡ (at16 bs (8 + 4 * k), at16 bs (8 + 4 * k + 2)) ∷ read_places (n - (k + 1)) (drop (8 + 4 * (k + 1)) bs)
-unfolding read_places
-places-next bs n k h =
-    let e : n - k ≡ suc (n - (k + 1)) = omega arith in
-    let a : 8 + 4 * k + 0 ≡ 8 + 4 * k = omega arith in
-    let b : 8 + 4 * k + 4 ≡ 8 + 4 * (k + 1) = omega arith in
-    rw (e, at_drop (8 + 4 * k) 0 bs, at_drop (8 + 4 * k) 2 bs, a, drop-drop 4 (8 + 4 * k) bs, b)
-
 -- the greatest is taken step by step from the front, as the least is
 greatest-step : (x y : ℕ) (ys : List ℕ) → greatest_of x (y ∷ ys) ≡ greatest_of (max y x) ys
 unfolding greatest_of
@@ -106,3 +63,12 @@ module _ (ws : List (ℕ × ℕ)) (m low high : ℕ) where
   pub announced_other : (n p : ℕ) → (n ≡ m → ⊥) → announced_pair ((n, p) ∷ ws) m (low ∷ high ∷ []) ≡ announced_pair ws m (low ∷ high ∷ [])
   unfolding announced_pair waiting_of
   announced_other n p e = rw (ne_eqb m n (λ q. e (sym q)))
+
+pub announced-none : (m low high : ℕ) → announced_pair [] m (low ∷ high ∷ []) ≡ low ∷ high ∷ []
+unfolding announced_pair waiting_of least_of greatest_of
+announced-none m low high = refl
+
+-- a span is its two ends
+pub announced-ends : (ws : List (ℕ × ℕ)) (m : ℕ) (span : List ℕ) → announced_pair ws m (get_or span 0 0 ∷ get_or span 1 0 ∷ []) ≡ announced_pair ws m span
+unfolding announced_pair
+announced-ends ws m span = refl

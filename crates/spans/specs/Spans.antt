@@ -1,6 +1,6 @@
 -- The six spans of a start or a session, in the order of the live months. Contracts of leaves cite this file.
 -- Assumes nothing.
-use Rattle.std.specs.Prelude.{Bool, true, false, cond, ◌&&◌, List, [], ◌∷◌, ℕ, min, max, eqb, get_or}
+use Rattle.std.specs.Prelude.{cond, List, [], ◌∷◌, ℕ, min, max, eqb, get_or}
 use Rattle.base.specs.Lists.{least_of, greatest_of}
 use Rattle.calendar.specs.Live.{tier_of}
 use Rattle.grid.specs.Grid.{required_low, required_high}
@@ -35,10 +35,3 @@ new_pair ws m held wide = cond (eqb (get_or held 0 0) 0) wide (announced_pair ws
 
 unfoldable pub new_spans : List (ℕ × ℕ) → List ℕ → List (List ℕ) → List (List ℕ) → List (List ℕ)
 new_spans ws months held wide = six (λ i. new_pair ws (get_or months i 0) (get_or held i []) (get_or wide i []))
-
--- two lists of spans agree
-unfoldable pub same_spans : List (List ℕ) → List (List ℕ) → Bool
-same_spans [] [] = true
-same_spans [] (t ∷ ts) = false
-same_spans (s ∷ ss) [] = false
-same_spans (s ∷ ss) (t ∷ ts) = eqb (get_or s 0 0) (get_or t 0 0) && (eqb (get_or s 1 0) (get_or t 1 0) && same_spans ss ts)

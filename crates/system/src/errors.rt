@@ -1,117 +1,100 @@
-// The numbers of errors, and their words.
-ghost use Rattle.std.specs.Prelude.{◌≤◌, length};
-
+// Why a call of the system failed.
 use crate::{Stream, System};
-use std::io;
-use std::io::{Error, ErrorKind};
+use std::fmt::Display;
+use std::io::ErrorKind;
+use std::{fmt, io, str};
+use text::Text;
 
-pub const EPERM: i32 = 1;
+// The longest text of an error that the library gives.
+const TEXT: usize = 512;
 
-pub const ENOENT: i32 = 2;
+// What the library puts between the words and the number.
+const BEFORE_NUMBER: &str = " (os error ";
 
-pub const EIO: i32 = 5;
+// The system's number of an error.
+#[derive(Clone, Copy, PartialEq, Eq, Debug)]
+pub struct Error(i32);
 
-pub const ENOMEM: i32 = 12;
+impl Error {
+    pub const EPERM: Error = Error(1);
 
-pub const EACCES: i32 = 13;
+    pub const ENOENT: Error = Error(2);
 
-pub const EEXIST: i32 = 17;
+    pub const EIO: Error = Error(5);
 
-pub const ENOTDIR: i32 = 20;
+    pub const ENOMEM: Error = Error(12);
 
-pub const EISDIR: i32 = 21;
+    pub const EACCES: Error = Error(13);
 
-pub const EINVAL: i32 = 22;
+    pub const EEXIST: Error = Error(17);
 
-pub const EFBIG: i32 = 27;
+    pub const ENOTDIR: Error = Error(20);
 
-pub const ENOSPC: i32 = 28;
+    pub const EISDIR: Error = Error(21);
 
-pub const EROFS: i32 = 30;
+    pub const EINVAL: Error = Error(22);
 
-pub const ENAMETOOLONG: i32 = 36;
+    pub const EFBIG: Error = Error(27);
 
-pub const ELOOP: i32 = 40;
+    pub const ENOSPC: Error = Error(28);
 
-pub const EILSEQ: i32 = 84;
+    pub const EROFS: Error = Error(30);
 
-pub const EDQUOT: i32 = 122;
+    pub const ENAMETOOLONG: Error = Error(36);
 
-// Where the library found the error before the system did, the number that the system would have given.
-fn number(error: Error) -> i32 {
-    if let Some(code) = error.raw_os_error() {
-        return code;
+    pub const ELOOP: Error = Error(40);
+
+    pub const EILSEQ: Error = Error(84);
+
+    pub const EDQUOT: Error = Error(122);
+}
+
+// Where the library found the error before the system did, it is the one that the system would have given.
+impl From<io::Error> for Error {
+    fn from(error: io::Error) -> Error {
+        if let Some(number) = error.raw_os_error() {
+            return Error(number);
+        }
+        match error.kind() {
+            ErrorKind::InvalidInput => Error::EINVAL,
+            ErrorKind::InvalidData => Error::EILSEQ,
+            ErrorKind::InvalidFilename => Error::EILSEQ,
+            ErrorKind::OutOfMemory => Error::ENOMEM,
+            _ => Error::EIO,
+        }
     }
-    match error.kind() {
-        ErrorKind::InvalidInput => EINVAL,
-        ErrorKind::InvalidData => EILSEQ,
-        ErrorKind::InvalidFilename => EILSEQ,
-        ErrorKind::OutOfMemory => ENOMEM,
-        _ => EIO,
+}
+
+// The system's words.
+impl Display for Error {
+    fn fmt<W: fmt::Write>(&self, f: &mut fmt::Formatter<W>) -> fmt::Result {
+        let mut text = Text::<TEXT>::new();
+        text.say(io::Error::from_raw_os_error(self.0));
+        match str::from_utf8(text.as_bytes()) {
+            Ok(text) => f.write_str(words(text)),
+            Err(_) => Ok(()),
+        }
+    }
+}
+
+impl std::error::Error for Error {}
+
+// The words of an error's text: its number stands behind them.
+fn words(text: &str) -> &str {
+    match text.split_once(BEFORE_NUMBER) {
+        Some((words, _)) => words,
+        None => text,
     }
 }
 
 impl System {
-    // The number of the last call's error.
-    pub fn error(&self) -> i32 {
-        self.error.get()
-    }
-
-    pub(crate) fn set_error(&self, error: i32) {
-        self.error.set(error);
-    }
-
-    pub(crate) fn keep(&self, error: Error) {
-        self.set_error(number(error));
-    }
-
-    // What a call answered; of one that failed the error is kept.
-    pub(crate) fn some<T: Drop>(&self, answer: io::Result<T>) -> Option<T> {
-        match answer {
-            Ok(value) => Some(value),
-            Err(error) => {
-                self.keep(error);
-                None
-            }
-        }
-    }
-
-    pub(crate) fn is_done(&self, answer: io::Result<()>) -> bool {
-        match answer {
-            Ok(()) => true,
-            Err(error) => {
-                self.keep(error);
-                false
-            }
-        }
-    }
-
     // Writes a line to standard error: what failed, a colon and the system's words for the error.
-    pub fn fail(&self, what: &[u8]) {
-        let error = self.error();
-        self.write_to(Stream::Error, what);
-        self.write_to(Stream::Error, b": ");
-        self.write_words(error);
-        self.write_to(Stream::Error, b"\n");
-    }
-
-    fn write_words(&self, error: i32) {
-        let error = Error::from_raw_os_error(error);
-        if let Ok(text) = format!(in self.rt.alloc(); "{error}") {
-            let text = text.as_str();
-            let end = words_end(text);
-            self.write_to(Stream::Error, &text.as_bytes()[..end]);
-        }
-    }
-}
-
-// Where the words of an error's text end: its number stands behind them.
-fn words_end(text: &str) -> usize
-    ensures { result ≤ length text.now }
-{
-    let most = text.len();
-    match text.find(" (os error ") {
-        Some(end) => end.min(most),
-        None => most,
+    pub fn fail(&self, what: &[u8], error: Error) {
+        let mut words = Text::<TEXT>::new();
+        words.say(error);
+        self.tell(what);
+        self.tell(b": ");
+        self.tell(words.as_bytes());
+        self.tell(b"\n");
     }
 }

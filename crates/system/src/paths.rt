@@ -1,14 +1,11 @@
 // Files by name.
-ghost use Rattle.std.specs.Prelude.{◌≤◌, length, IfSome};
-
-use crate::System;
-use crate::errors::{EILSEQ, ENAMETOOLONG};
-use crate::space::PATH_MAX;
+use crate::{Error, PATH_MAX, System};
 use std::fs::{File, Metadata, OpenOptions};
 use std::io::{Seek, SeekFrom};
 use std::os::fd::{AsRawFd, IntoRawFd};
 use std::os::unix::fs::{PermissionsExt, fchown};
-use std::{fs, io, str};
+use std::{fs, str};
+use text::Text;
 
 // The last of the standard streams.
 const LAST_STREAM: i32 = 2;
@@ -27,113 +24,84 @@ fn to_create() -> OpenOptions {
     options
 }
 
+// A path as text. Where it is none, or longer than one can be, the error says so.
+fn text_of(path: &[u8]) -> Result<&str, Error> {
+    if PATH_MAX <= path.len() {
+        return Err(Error::ENAMETOOLONG);
+    }
+    str::from_utf8(path).map_err(|_| Error::EILSEQ)
+}
+
 impl System {
-    // A path as text. Where it is none, or longer than one can be, the error says so.
-    fn path<'a>(&self, path: &'a [u8]) -> Option<&'a str> {
-        if PATH_MAX <= path.len() {
-            self.set_error(ENAMETOOLONG);
-            return None;
-        }
-        match str::from_utf8(path) {
-            Ok(text) => Some(text),
-            Err(_) => {
-                self.set_error(EILSEQ);
-                None
-            }
-        }
+    fn open(&self, how: OpenOptions, path: &[u8]) -> Result<File, Error> {
+        Ok(how.open(&self.rt, text_of(path)?)?)
     }
 
-    fn open(&self, how: OpenOptions, path: &[u8]) -> Option<File> {
-        let text = self.path(path)?;
-        self.some(how.open(&self.rt, text))
-    }
-
-    pub fn open_read(&self, path: &[u8]) -> Option<File> {
-        let text = self.path(path)?;
-        self.some(fs::open(&self.rt, text))
+    pub fn open_read(&self, path: &[u8]) -> Result<File, Error> {
+        Ok(fs::open(&self.rt, text_of(path)?)?)
     }
 
     // For reading and writing; its bytes stay as they are.
-    pub fn open_update(&self, path: &[u8]) -> Option<File> {
+    pub fn open_update(&self, path: &[u8]) -> Result<File, Error> {
         self.open(to_update(), path)
     }
 
     // Makes a file, for writing. It fails where the name is taken.
-    pub fn create(&self, path: &[u8]) -> Option<File> {
+    pub fn create(&self, path: &[u8]) -> Result<File, Error> {
         self.open(to_create(), path)
     }
 
-    pub fn rename(&self, from: &[u8], to: &[u8]) -> bool {
-        let Some(from) = self.path(from) else {
-            return false;
-        };
-        let Some(to) = self.path(to) else {
-            return false;
-        };
-        self.is_done(fs::rename(&self.rt, from, to))
+    pub fn rename(&self, from: &[u8], to: &[u8]) -> Result<(), Error> {
+        Ok(fs::rename(&self.rt, text_of(from)?, text_of(to)?)?)
     }
 
-    pub fn unlink(&self, path: &[u8]) -> bool {
-        let Some(path) = self.path(path) else {
-            return false;
-        };
-        self.is_done(fs::remove_file(&self.rt, path))
+    pub fn unlink(&self, path: &[u8]) -> Result<(), Error> {
+        Ok(fs::remove_file(&self.rt, text_of(path)?)?)
     }
 
     // Gives an open file an owner and a group; the one that is left out stays.
-    pub fn chown(&self, file: &File, owner: Option<u32>, group: Option<u32>) -> bool {
-        self.is_done(fchown(file, owner, group))
+    pub fn chown(&self, file: &File, owner: Option<u32>, group: Option<u32>) -> Result<(), Error> {
+        Ok(fchown(file, owner, group)?)
     }
 
-    pub fn chmod(&self, file: &File, mode: u32) -> bool {
-        self.is_done(file.set_permissions(fs::Permissions::from_mode(mode)))
+    pub fn chmod(&self, file: &File, mode: u32) -> Result<(), Error> {
+        Ok(file.set_permissions(fs::Permissions::from_mode(mode))?)
     }
 
     // Brings an open file, or the entries of an open folder, to the disk.
-    pub fn sync(&self, file: &File) -> bool {
-        self.is_done(file.sync_all())
+    pub fn sync(&self, file: &File) -> Result<(), Error> {
+        Ok(file.sync_all()?)
     }
 
-    pub fn truncate(&self, file: &File, size: u64) -> bool {
-        self.is_done(file.set_len(size))
+    pub fn truncate(&self, file: &File, size: u64) -> Result<(), Error> {
+        Ok(file.set_len(size)?)
     }
 
     // How long an open file is; the next byte that is written goes there.
-    pub fn end(&self, file: &File) -> Option<u64> {
+    pub fn end(&self, file: &File) -> Result<u64, Error> {
         let mut at = file;
-        self.some(at.seek(SeekFrom::End(0)))
+        Ok(at.seek(SeekFrom::End(0))?)
     }
 
     // What is known of a file by its name, links followed.
-    pub fn metadata(&self, path: &[u8]) -> Option<Metadata> {
-        let text = self.path(path)?;
-        self.some(fs::metadata(&self.rt, text))
+    pub fn metadata(&self, path: &[u8]) -> Result<Metadata, Error> {
+        Ok(fs::metadata(&self.rt, text_of(path)?)?)
     }
 
-    // Puts where a link leads at the start of the buffer and answers how many bytes; no more than fit.
-    pub fn link_target(&self, path: &[u8], target: &mut [u8]) -> Option<usize>
-        ensures { IfSome result (λ n. n ≤ length target.new) }
-    {
-        let text = self.path(path)?;
-        let link = self.some(fs::read_link(&self.rt, text))?;
-        Some(put(target, link.as_str().as_bytes()))
+    // Where a link leads.
+    pub fn link_target(&self, path: &[u8]) -> Result<Text<PATH_MAX>, Error> {
+        let link = fs::read_link(&self.rt, text_of(path)?)?;
+        let mut target = Text::new();
+        target.put(link.as_str().as_bytes());
+        Ok(target)
     }
 
     // Takes a number below 3 where one is free, and keeps it.
     pub fn hold_stream(&self) {
-        if let Some(file) = self.open_read(b"/dev/null") {
+        if let Ok(file) = self.open_read(b"/dev/null") {
             if file.as_raw_fd() <= LAST_STREAM {
                 let _ = file.into_raw_fd();
             }
         }
     }
-}
-
-// Puts the bytes at the start of the buffer, as many as it has room for, and answers how many.
-fn put(buffer: &mut [u8], bytes: &[u8]) -> usize
-    ensures { result ≤ length buffer.new }
-{
-    let n = bytes.len().min(buffer.len());
-    buffer[..n].copy_from_slice(&bytes[..n]);
-    n
 }

@@ -1,9 +1,8 @@
 // Reading and writing open files and the standard streams.
-ghost use Rattle.std.specs.Prelude.{◌≤◌, length, IfOk, IfSome};
+ghost use Rattle.std.specs.Prelude.{◌≤◌, length, IfOk};
 
-use crate::System;
+use crate::{Error, System};
 use std::fs::File;
-use std::io;
 use std::io::{Read, Write};
 
 #[derive(Clone, Copy)]
@@ -20,47 +19,33 @@ pub enum Source<'a> {
 }
 
 impl System {
-    // Writes all of the bytes; false where that fails, when some of them may have been written.
-    pub fn write_to(&self, to: Stream, bytes: &[u8]) -> bool {
-        let answer = match to {
-            Stream::Output => Print::write_all(&self.rt.stdout(), bytes),
-            Stream::Error => Print::write_all(&self.rt.stderr(), bytes),
-        };
-        self.is_done(answer)
+    // Writes all of the bytes. Where that fails some of them may have been written.
+    pub fn write_to(&self, to: Stream, bytes: &[u8]) -> Result<(), Error> {
+        match to {
+            Stream::Output => Print::write_all(&self.rt.stdout(), bytes)?,
+            Stream::Error => Print::write_all(&self.rt.stderr(), bytes)?,
+        }
+        Ok(())
+    }
+
+    // Writes to standard error. Where that fails there is nowhere to tell it.
+    pub fn tell(&self, bytes: &[u8]) {
+        let _ = self.write_to(Stream::Error, bytes);
     }
 
     // The same into an open file.
-    pub fn write(&self, file: &File, bytes: &[u8]) -> bool {
+    pub fn write(&self, file: &File, bytes: &[u8]) -> Result<(), Error> {
         let mut to = file;
-        let answer = to.write_all(bytes);
-        self.is_done(answer)
+        Ok(to.write_all(bytes)?)
     }
 
-    fn ask(&self, from: Source<'_>, buffer: &mut [u8]) -> io::Result<usize>
+    // Puts what one read gives at the start of the buffer, and answers how many bytes.
+    pub fn read_once(&self, from: Source<'_>, buffer: &mut [u8]) -> Result<usize, Error>
         ensures { IfOk result (λ n. n ≤ length buffer.new) }
     {
         match from {
-            Source::Input => {
-                let mut input = self.rt.stdin();
-                input.read(buffer)
-            }
-            Source::File(file) => {
-                let mut input = file;
-                input.read(buffer)
-            }
-        }
-    }
-
-    // Puts what one read gives at the start of the buffer, and answers how many bytes; none at all where it fails.
-    pub fn read_once(&self, from: Source<'_>, buffer: &mut [u8]) -> Option<usize>
-        ensures { IfSome result (λ n. n ≤ length buffer.new) }
-    {
-        match self.ask(from, buffer) {
-            Ok(n) => Some(n),
-            Err(error) => {
-                self.keep(error);
-                None
-            }
+            Source::Input => Ok(self.rt.stdin().read(buffer)?),
+            Source::File(mut file) => Ok(file.read(buffer)?),
         }
     }
 
@@ -69,9 +54,10 @@ impl System {
         ensures { result ≤ length buffer.new }
     {
         let mut done = 0;
+        // Kept: one read may give a few bytes or many, so no iterator goes over them.
         while done < buffer.len() {
             match self.read_once(from, &mut buffer[done..]) {
-                Some(n) if n > 0 => done += n,
+                Ok(n) if n > 0 => done += n,
                 _ => break,
             }
         }

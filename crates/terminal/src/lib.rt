@@ -1,55 +1,94 @@
 // What the console program shares with the person at it: the arguments and the files that they name, answers and refusals,
-// exit statuses.
+// how a command ends.
 #![tactic(auto)]
+
+ghost use Rattle.std.specs.Prelude.{◌≡◌, IfOk};
+ghost use Rattle.terminal.specs.declared.Status.TheVariants.{Done, Refused};
 
 mod arguments;
 mod streams;
 
 pub use arguments::{
-    CLOSE, DAY, MONTH, PRICE, file, followed, has_point, is_whole, number, register_or_none,
-    replace, text,
+    Meaning, file, followed, has_point, number, register_or_none, replace, text, whole,
 };
+use files::Trouble;
+use std::fmt::Display;
 pub use streams::hold_streams;
 use system::{Stream, System};
+use text::Text;
 
-// Exit statuses.
-pub const DONE: i32 = 0;
+// How a command ends that met no trouble.
+#[derive(Clone, Copy, PartialEq, Eq, Debug)]
+pub enum Status {
+    Done,
+    // By a cause.
+    Refused,
+}
 
-pub const REFUSED: i32 = 1;
+// Room for an answer.
+const ROOM: usize = 65536;
 
-pub const TROUBLE: i32 = 2;
+fn words(what: impl Display + Drop) -> Text<ROOM> {
+    let mut words = Text::new();
+    words.say(what);
+    words
+}
 
 // Writes an answer out; a pipe or disk that takes no more is trouble.
-pub fn say(system: &System, to: Stream, out: &[u8], end: usize, status: i32) -> i32 {
-    if system.write_to(to, text::part(out, 0, end)) {
-        return status;
+pub fn say(
+    system: &System,
+    to: Stream,
+    what: impl Display + Drop,
+    status: Status,
+) -> Result<Status, Trouble>
+    ensures { IfOk result (λ end. end ≡ status) }
+{
+    say_bytes(system, to, words(what).as_bytes(), status)
+}
+
+// The same of bytes that may be no text, as a name among the words, or of an answer for which there is no room here.
+pub fn say_bytes(
+    system: &System,
+    to: Stream,
+    bytes: &[u8],
+    status: Status,
+) -> Result<Status, Trouble>
+    ensures { IfOk result (λ end. end ≡ status) }
+{
+    match system.write_to(to, bytes) {
+        Ok(()) => Ok(status),
+        Err(error) => {
+            system.fail(b"the answer could not be written", error);
+            Err(Trouble)
+        }
     }
-    system.fail(b"the answer could not be written");
-    TROUBLE
 }
 
 // Writes the answer of a command that has changed files. Where that fails, the message says which of them did move.
-pub fn tell(system: &System, out: &[u8], end: usize, moved: &[u8]) -> i32 {
-    if system.write_to(Stream::Output, text::part(out, 0, end)) {
-        return DONE;
+pub fn tell(system: &System, what: impl Display + Drop, moved: &str) -> Result<Status, Trouble>
+    ensures { IfOk result (λ end. end ≡ Done) }
+{
+    tell_bytes(system, words(what).as_bytes(), moved)
+}
+
+// The same of bytes that may be no text.
+pub fn tell_bytes(system: &System, bytes: &[u8], moved: &str) -> Result<Status, Trouble>
+    ensures { IfOk result (λ end. end ≡ Done) }
+{
+    match system.write_to(Stream::Output, bytes) {
+        Ok(()) => Ok(Status::Done),
+        Err(error) => {
+            system.tell(b"done: ");
+            system.tell(moved.as_bytes());
+            system.fail(b" did move, but the answer could not be written", error);
+            Err(Trouble)
+        }
     }
-    system.write_to(Stream::Error, b"done: ");
-    system.write_to(Stream::Error, moved);
-    system.fail(b" did move, but the answer could not be written");
-    TROUBLE
 }
 
 // A refusal in words.
-pub fn refuse(
-    system: &System,
-    calendar: &[u8],
-    register: &[u8],
-    number: u16,
-    value: u16,
-    x: u32,
-    y: u32,
-) -> i32 {
-    let mut out = system::buffer();
-    let end = wording::refusal(&mut out, 0, calendar, register, number, value as u32, x, y);
-    say(system, Stream::Error, &out, end, REFUSED)
+pub fn refuse(system: &System, refusal: impl Display + Drop) -> Result<Status, Trouble>
+    ensures { IfOk result (λ end. end ≡ Refused) }
+{
+    say(system, Stream::Error, refusal, Status::Refused)
 }

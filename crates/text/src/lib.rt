@@ -1,15 +1,14 @@
-// Text on slices, as the console program writes and reads it: days, months, closes and numbers, both ways.
-//
-// What is written goes into a buffer that the caller lends, behind its first `at` bytes; each function answers where the next
-// byte goes. Where the buffer is full the rest is left out, so that the answer is its length.
+// Text, as the console program writes and reads it: days, months, closes and numbers, both ways.
 #![tactic(auto)]
 
+mod buffer;
 mod read;
-mod search;
 mod styles;
-mod write;
+mod values;
 
-pub use read::{END_YEAR, Parsed, read_close, read_comma_close, read_day, read_month, read_number};
-pub use search::{behind_last, find, line_end, part, same, word_end, word_start};
+pub use buffer::Text;
+pub use read::{
+    END_YEAR, read_close, read_comma_close, read_day, read_month, read_number, split_once,
+};
 pub use styles::{read_styled_day, read_styled_month};
-pub use write::{column, date, month, narrowed, number, points, put, put_byte};
+pub use values::{Date, Month, Plural, Points, narrowed};

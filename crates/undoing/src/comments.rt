@@ -1,51 +1,33 @@
 // A journal written anew, with the calls from a place on as comments.
+use files::{NewFile, Saved, Target, Trouble};
+use lines::{Numbered, Words};
+use system::{Error, System};
 
-use system::{File, System};
-
-fn has_call(line: &[u8]) -> bool {
-    let name = lines::word(lines::content(line));
-    0 < name.len()
-}
-
-// A line without its line feed.
-fn write_line(system: &System, file: &File, line: &[u8]) -> bool {
-    if has_call(line) && !system.write(file, b"# taken back: ") {
-        return false;
-    }
-    system.write(file, line) && system.write(file, b"\n")
-}
-
-// The lines from a place on.
-fn write_lines(system: &System, file: &File, text: &[u8], from: usize) -> bool {
-    let mut start = from;
-    let mut i = from;
-    while i < text.len() {
-        if text[i] == b'\n' {
-            if !write_line(system, file, text::part(text, start, i)) {
-                return false;
-            }
-            start = i + 1;
+// `from` is whole lines.
+fn write(system: &System, file: &NewFile<'_>, before: &[u8], from: &[u8]) -> Result<(), Error> {
+    file.dress(system)?;
+    file.write(system, before)?;
+    for (_, line) in Numbered::of(from) {
+        let has_call = Words::of(lines::content(line)).next().is_some();
+        if has_call {
+            file.write(system, b"# taken back: ")?;
         }
-        i += 1;
+        file.write(system, line)?;
+        file.write(system, b"\n")?;
     }
-    true
-}
-
-fn write(system: &System, file: &File, path: &[u8], text: &[u8], from: usize) -> bool {
-    files::dress(system, file, path)
-        && system.write(file, text::part(text, 0, from))
-        && write_lines(system, file, text, from)
+    Ok(())
 }
 
 // Makes the new journal beside the old one and brings it to the disk. Where that fails it is taken away.
-pub fn make(system: &System, path: &[u8], beside: &[u8], text: &[u8], from: usize) -> bool {
-    let Some(file) = files::lock(system, path, beside) else {
-        return false;
-    };
-    if write(system, &file, path, text, from) {
-        return files::finish(system, file, beside);
+pub fn make<'t>(
+    system: &System,
+    journal: &'t Target,
+    before: &[u8],
+    from: &[u8],
+) -> Result<Saved<'t>, Trouble> {
+    let file = journal.lock(system, None)?;
+    match write(system, &file, before, from) {
+        Ok(()) => file.finish(system),
+        Err(error) => Err(file.give_up(system, error)),
     }
-    files::fail(system, beside);
-    files::release(system, file, beside);
-    false
 }

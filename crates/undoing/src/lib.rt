@@ -7,310 +7,232 @@
 
 mod comments;
 
-use calls::{SESSION, START};
-use files::{Installed, Loaded};
-use keeping::Standing;
-use matching::Found;
-use phrases::fill;
-use system::{File, System};
-use terminal::{TROUBLE, refuse};
+use base::Cause;
+use calls::Call;
+use files::{NewFile, Saved, Target, Trouble};
+use keeping::{Journal, Standing};
+use layout::REGISTER_LENGTH;
+use matching::Last;
+use reading::Register;
+use std::fmt;
+use std::fmt::Display;
+use system::System;
+use terminal::Status;
+use text::{Date, Plural, Text};
+use wording::CalendarRefusal;
 
-// What a file of series that was written with the call is now. An announcement has none.
-fn put_file(out: &mut [u8], at: usize, kind: u8) -> usize {
-    match kind {
-        START => text::put(
-            out,
-            at,
-            b"  a file of series written for it is no longer right: the next start makes it anew with --file FILE\n",
-        ),
-        SESSION => text::put(
-            out,
-            at,
-            b"  a file of series written for it is no longer right, make it anew: sindhopul file CALENDAR REGISTER FILE\n",
-        ),
-        _ => at,
+// How the register stands behind a call that was taken back, and what a file of series that was written with the call is now.
+// An announcement has none.
+#[derive(Clone, Copy)]
+struct TakenBack<'a> {
+    call: Call,
+    register: Register<'a>,
+}
+
+impl Display for TakenBack<'_> {
+    fn fmt<W: fmt::Write>(&self, f: &mut fmt::Formatter<W>) -> fmt::Result {
+        match self.register.row_count() {
+            0 => f.write_str("; the register is empty again")?,
+            rows => {
+                let day = Date(self.register.day());
+                let s = Plural(rows);
+                write!(f, "; the register stands at {day} again, {rows} row{s}")?;
+            }
+        }
+        f.write_str("\n  the journal keeps the line, and calls refused behind it, as comments\n")?;
+        f.write_str(match self.call {
+            Call::Start(_, _) =>
+                "  a file of series written for it is no longer right: the next start makes it anew with --file FILE\n",
+            Call::Session(_, _) =>
+                "  a file of series written for it is no longer right, make it anew: sindhopul file CALENDAR REGISTER FILE\n",
+            Call::Announce(_, _) => "",
+        })
     }
 }
 
-// What was taken back, and how the register stands now.
-fn tell(system: &System, line: &[u8], kind: u8, register: &[u8]) -> i32 {
-    let mut out = system::buffer();
-    let at = text::put(&mut out, 0, b"taken back: ");
-    let at = text::put(&mut out, at, line);
-    let rows = reading::row_count(register);
-    let form = if rows == 0 { 1 } else { 2 };
-    let end = fill(
-        &mut out,
-        at,
-        lines::line(
-            b"; the register is empty again
-; the register stands at %d again, %n row%s",
-            form,
-        ),
-        [reading::day(register), rows, rows, 0, 0, 0],
-    );
-    let end = text::put(
-        &mut out,
-        end,
-        b"\n  the journal keeps the line, and calls refused behind it, as comments\n",
-    );
-    let end = put_file(&mut out, end, kind);
-    terminal::tell(system, &out, end, b"register and journal")
+// The words of a line's call, without its answer and the blank before that.
+fn call_in(line: &[u8]) -> &[u8] {
+    match text::split_once(line, b'=') {
+        Some(([call @ .., _], _)) => call,
+        Some((call, _)) => call,
+        None => line,
+    }
 }
 
-// Puts the new register and then the new journal in place.
-fn install(
-    system: &System,
-    path: &[u8],
-    beside: &[u8],
-    journal: &[u8],
-    journal_beside: &[u8],
-) -> Installed {
-    let installed = files::install(system, path, beside, b"");
-    if let Installed::Failed = installed {
-        files::discard(system, journal_beside);
-        return installed;
-    }
-    files::install(
-        system,
-        journal,
-        journal_beside,
-        b"the register did move back; ",
-    )
+fn tell(system: &System, last: Last<'_>, register: Register<'_>) -> Result<Status, Trouble> {
+    let mut out = Text::<4096>::new();
+    out.put(b"taken back: ");
+    out.put(call_in(last.line.line));
+    out.say(TakenBack {
+        call: last.call,
+        register,
+    });
+    terminal::tell_bytes(system, out.as_bytes(), "register and journal")
 }
 
 // Whether the journal still has as many bytes as were read of it: a call that was kept meanwhile would be lost.
-fn is_as_read(system: &System, journal: &[u8], size: usize) -> bool {
-    let file = attributes::of(system, journal);
-    if file.size == text::narrowed(size) as i64 {
-        return true;
+fn check_size(system: &System, journal: &[u8], size: usize) -> Result<(), Trouble> {
+    match attributes::of(system, journal) {
+        Ok(Some(file)) if usize::try_from(file.size) == Ok(size) => Ok(()),
+        _ => {
+            Err(files::complain(
+                system,
+                journal,
+                "it was changed meanwhile: run the command again",
+            ))
+        }
     }
-    files::complain(
-        system,
-        journal,
-        b"it was changed meanwhile: run the command again",
-    );
-    false
+}
+
+// The journal as it was read: its whole lines, and how many bytes it had.
+#[derive(Clone, Copy)]
+struct Loaded<'a> {
+    target: &'a Target,
+    text: &'a [u8],
+    size: usize,
+}
+
+// Puts the new register and then the new journal in place, which follows the register also where its folder does not come to
+// the disk.
+fn install(system: &System, register: Saved<'_>, journal: Saved<'_>) -> Result<(), Trouble> {
+    match register.put_in_place(system, "") {
+        Ok(moved) => {
+            let _ = moved.settle(system);
+            journal.install(system, "the register did move back; ")
+        }
+        Err(trouble) => {
+            journal.discard(system);
+            Err(trouble)
+        }
+    }
 }
 
 // Takes back a call that the register has: it becomes what the calls before give.
 fn take_back(
     system: &System,
-    opened: File,
-    path: &[u8],
-    beside: &[u8],
-    journal: &[u8],
-    journal_beside: &[u8],
-    text: &[u8],
-    size: usize,
-    found: Found,
+    opened: NewFile<'_>,
+    journal: Loaded<'_>,
+    last: Last<'_>,
     calendar: &[u8],
-) -> i32 {
-    let mut register = space::register();
-    let before = text::part(text, 0, found.at);
-    if !rebuilding::rebuild(system, journal, before, calendar, &mut register) {
-        files::release(system, opened, beside);
-        return TROUBLE;
+) -> Result<Status, Trouble> {
+    let path = journal.target.path();
+    let (before, from) = last.split(journal.text);
+    let mut register = space::zeros::<REGISTER_LENGTH>();
+    if let Err(trouble) = rebuilding::rebuild(system, path, before, calendar, &mut register) {
+        opened.release(system);
+        return Err(trouble);
     }
-    if !files::save(system, opened, path, beside, &register) {
-        return TROUBLE;
+    let new_register = opened.save(system, &register)?;
+    let new_journal = match comments::make(system, journal.target, before, from) {
+        Ok(made) => made,
+        Err(trouble) => {
+            new_register.discard(system);
+            return Err(trouble);
+        }
+    };
+    if let Err(trouble) = check_size(system, path, journal.size) {
+        new_journal.discard(system);
+        new_register.discard(system);
+        return Err(trouble);
     }
-    if !comments::make(system, journal, journal_beside, text, found.at) {
-        files::discard(system, beside);
-        return TROUBLE;
-    }
-    if !is_as_read(system, journal, size) {
-        files::discard(system, journal_beside);
-        files::discard(system, beside);
-        return TROUBLE;
-    }
-    let installed = install(system, path, beside, journal, journal_beside);
-    match installed {
-        Installed::Done => tell(system, call_of(text, found), found.kind, &register),
-        _ => TROUBLE,
-    }
-}
-
-// The words of the call that is taken back, without its answer.
-fn call_of(text: &[u8], found: Found) -> &[u8] {
-    let line = lines::line(text, found.line);
-    text::part(line, 0, before_answer(line))
-}
-
-// Where the answer, and the blank before it, begin in a line.
-fn before_answer(line: &[u8]) -> usize {
-    let end = text::find(line, 0, b'=');
-    if end == 0 || line.len() <= end {
-        return end;
-    }
-    end - 1
+    install(system, new_register, new_journal)?;
+    let register = Register {
+        calendar,
+        bytes: &register,
+    };
+    tell(system, last, register)
 }
 
 // Takes back a call that the register has not, or has no longer: a run was cut off.
 fn strike_out(
     system: &System,
-    opened: File,
-    beside: &[u8],
-    journal: &[u8],
-    journal_beside: &[u8],
-    text: &[u8],
-    found: Found,
-    register: &[u8],
-) -> i32 {
-    let is_made = comments::make(system, journal, journal_beside, text, found.at);
-    if !is_made {
-        files::release(system, opened, beside);
-        return TROUBLE;
-    }
-    let installed = files::install(system, journal, journal_beside, b"");
-    files::release(system, opened, beside);
-    match installed {
-        Installed::Done => tell(system, call_of(text, found), found.kind, register),
-        _ => TROUBLE,
-    }
-}
-
-fn nothing_accepted(system: &System, opened: File, beside: &[u8], journal: &[u8]) -> i32 {
-    files::release(system, opened, beside);
-    files::complain(
-        system,
-        journal,
-        b"none of its calls is accepted: there is nothing to take back",
+    opened: NewFile<'_>,
+    journal: Loaded<'_>,
+    last: Last<'_>,
+    register: Register<'_>,
+) -> Result<Status, Trouble> {
+    let (before, from) = last.split(journal.text);
+    let installed = comments::make(system, journal.target, before, from).and_then(
+        |made| made.install(system, ""),
     );
-    TROUBLE
+    opened.release(system);
+    installed?;
+    tell(system, last, register)
 }
 
-fn judged(
+// Reads the register that this run has locked, and the journal of word 4, and how the two stand.
+fn read<'a>(
     system: &System,
-    opened: File,
     path: &[u8],
-    beside: &[u8],
-    journal: &[u8],
-    journal_beside: &[u8],
-    bytes: &[u8],
-    size: usize,
+    target: &'a Target,
     calendar: &[u8],
-    register: &[u8],
-) -> i32 {
-    let text = journal::whole(bytes);
-    let standing = keeping::judge(system, journal, bytes, calendar, register, true);
-    match standing {
-        Standing::InStep(found) => {
-            if found.line == 0 {
-                return nothing_accepted(system, opened, beside, journal);
-            }
-            take_back(
-                system,
-                opened,
-                path,
-                beside,
-                journal,
-                journal_beside,
-                text,
-                size,
-                found,
-                calendar,
-            )
-        }
-        Standing::Ahead(found) => {
-            strike_out(
-                system,
-                opened,
-                beside,
-                journal,
-                journal_beside,
-                text,
-                found,
-                register,
-            )
-        }
-        Standing::Bad => {
-            files::release(system, opened, beside);
-            TROUBLE
-        }
-    }
-}
-
-// With the register that this run has locked, and the journal.
-fn with_files(
-    system: &System,
-    opened: File,
-    path: &[u8],
-    beside: &[u8],
-    journal: &[u8],
-    journal_beside: &[u8],
-    calendar: &[u8],
-    room: &mut [u8],
-) -> i32 {
-    let mut register = space::register();
-    let Loaded::Bytes(n) = terminal::text(system, 4, room) else {
-        files::release(system, opened, beside);
-        return TROUBLE;
-    };
+    register: &mut [u8],
+    room: &'a mut [u8],
+) -> Result<(Loaded<'a>, Standing<'a>), Trouble> {
+    let size = terminal::text(system, 4, room)?.len();
     // a start that was cut off leaves no register
-    if !terminal::register_or_none(system, path, &mut register) {
-        files::release(system, opened, beside);
-        return TROUBLE;
-    }
-    let length = journal::end_line(room, n);
-    judged(
+    terminal::register_or_none(system, path, register)?;
+    let bytes = journal::ended(room, size);
+    let named = Journal {
         system,
-        opened,
-        path,
-        beside,
-        journal,
-        journal_beside,
-        text::part(room, 0, length),
-        n,
-        calendar,
-        &register,
-    )
-}
-
-fn lock(system: &System, path: &[u8], journal: &[u8], calendar: &[u8], room: &mut [u8]) -> i32 {
-    let mut name = system::buffer();
-    let end = files::beside(system, path, &mut name);
-    let mut journal_name = system::buffer();
-    let journal_end = files::beside(system, journal, &mut journal_name);
-    if end == 0 || journal_end == 0 {
-        return TROUBLE;
-    }
-    let beside = text::part(&name, 0, end);
-    let journal_beside = text::part(&journal_name, 0, journal_end);
-    let Some(opened) = files::lock_first(system, path, beside, journal_beside) else {
-        return TROUBLE;
+        path: target.path(),
     };
-    with_files(
-        system,
-        opened,
-        path,
-        beside,
-        journal,
-        journal_beside,
+    let register = Register {
         calendar,
-        room,
-    )
+        bytes: register,
+    };
+    let standing = named.judge(bytes, register, true)?;
+    let journal = Loaded {
+        target,
+        text: journal::whole(bytes),
+        size,
+    };
+    Ok((journal, standing))
 }
 
 // `room` is for the journal's text.
-pub fn undo(system: &System, calendar: &[u8], room: &mut [u8]) -> i32 {
-    let checked = passing::check(calendar);
-    if checked.number != 0 {
-        let none = space::register();
-        return refuse(system, calendar, &none, checked.number, checked.month, 0, 0);
+pub fn undo(system: &System, calendar: &[u8], room: &mut [u8]) -> Result<Status, Trouble> {
+    if let Err(cause) = passing::check(calendar) {
+        return terminal::refuse(system, CalendarRefusal { calendar, cause });
     }
-    let mut path = system::buffer();
-    let end = terminal::followed(system, 3, &mut path);
-    let mut journal = system::buffer();
-    let journal_end = terminal::followed(system, 4, &mut journal);
-    if end == 0 || journal_end == 0 {
-        return TROUBLE;
-    }
-    lock(
+    // where both names are trouble, both are told
+    let register = terminal::followed(system, 3);
+    let journal = terminal::followed(system, 4);
+    let (register, journal) = (register?, journal?);
+    let register = Target::new(system, register);
+    let journal = Target::new(system, journal);
+    let (register, journal) = (register?, journal?);
+    let opened = register.lock(system, Some(&journal))?;
+    let mut bytes = space::zeros::<REGISTER_LENGTH>();
+    match read(
         system,
-        text::part(&path, 0, end),
-        text::part(&journal, 0, journal_end),
+        register.path(),
+        &journal,
         calendar,
+        &mut bytes,
         room,
-    )
+    ) {
+        Ok((journal, Standing::InStep(Some(last)))) => {
+            take_back(system, opened, journal, last, calendar)
+        }
+        Ok((journal, Standing::InStep(None))) => {
+            opened.release(system);
+            Err(files::complain(
+                system,
+                journal.target.path(),
+                "none of its calls is accepted: there is nothing to take back",
+            ))
+        }
+        Ok((journal, Standing::Ahead(last))) => {
+            let register = Register {
+                calendar,
+                bytes: &bytes,
+            };
+            strike_out(system, opened, journal, last, register)
+        }
+        Err(trouble) => {
+            opened.release(system);
+            Err(trouble)
+        }
+    }
 }

@@ -1,286 +1,210 @@
 // The first words: help, the version, and bad use, told in one line with the usage of the command behind it.
 #![tactic(auto)]
 
-use commands::{COMMANDS, HELP, JOURNAL, LISTED, NO_FILE, UNKNOWN, VERSION, WITH_FILE};
+use commands::{Command, Form, Opt, Usage};
+use files::Trouble;
+use help::{Help, Version};
+use std::fmt;
+use std::fmt::Display;
 use system::{Stream, System};
+use terminal::Status;
+use text::Text;
 
-#[derive(Drop)]
-pub enum Words {
-    // A command with words and options as it takes them.
-    Go(u32),
-    // Help was asked for and is said.
-    Helped,
-    // Bad use, or an answer that could not be written; told.
-    Wrong,
-}
+// Room for a message with a word in it.
+const ROOM: usize = 8192;
 
-// Puts the usage of the command, or where all commands are told.
-fn put_way(out: &mut [u8], at: usize, command: u32) -> usize {
-    if COMMANDS <= command {
-        return text::put(out, at, b"\n  sindhopul help tells all commands\n");
+// The usage of the command, or where all commands are told.
+#[derive(Clone, Copy)]
+struct Way(Option<Command>);
+
+impl Display for Way {
+    fn fmt<W: fmt::Write>(&self, f: &mut fmt::Formatter<W>) -> fmt::Result {
+        match self.0 {
+            None => f.write_str("\n  sindhopul help tells all commands\n"),
+            Some(command) => {
+                let usage = Usage {
+                    command,
+                    lead: "  ",
+                };
+                write!(f, "\n{usage}  sindhopul {command} --help says more\n")
+            }
+        }
     }
-    let at = text::put_byte(out, at, b'\n');
-    let at = commands::put_usage(out, at, command, b"  ");
-    let at = text::put(out, at, b"  sindhopul ");
-    let at = commands::put_name(out, at, command);
-    text::put(out, at, b" --help says more\n")
 }
 
-// Says what was wrong: three texts, the name of a row of the table, a text; and how to go on. Answers that it does not fit.
-fn wrong(
-    system: &System,
-    command: u32,
-    a: &[u8],
-    b: &[u8],
-    c: &[u8],
-    place: u32,
-    d: &[u8],
-) -> bool {
-    let mut out = [0u8; 8192];
-    let at = commands::put_lead(system, &mut out, 0);
-    let at = text::put(&mut out, at, a);
-    let at = text::put(&mut out, at, b);
-    let at = text::put(&mut out, at, c);
-    let at = commands::put_name(&mut out, at, place);
-    let at = text::put(&mut out, at, d);
-    let end = put_way(&mut out, at, command);
-    system.write_to(Stream::Error, text::part(&out, 0, end));
-    false
+// Says what was wrong, and how to go on.
+fn wrong(system: &System, command: Option<Command>, what: &[u8]) -> Trouble {
+    let mut out = Text::<ROOM>::new();
+    out.say(commands::lead(system));
+    out.put(what);
+    out.say(Way(command));
+    system.tell(out.as_bytes());
+    Trouble
 }
 
-// The same with a suggestion, where there is one.
-fn unknown(system: &System, command: u32, what: &[u8], word: &[u8], near: u32, end: u32) -> bool {
-    if near < end {
-        return wrong(system, command, what, word, b": did you mean ", near, b"?");
+// The same of words without one that was given.
+fn wrong_words(system: &System, command: Option<Command>, what: impl Display + Drop) -> Trouble {
+    let mut words = Text::<ROOM>::new();
+    words.say(what);
+    wrong(system, command, words.as_bytes())
+}
+
+fn no_command(system: &System, word: &[u8]) -> Trouble {
+    if word.is_empty() {
+        return wrong_words(system, None, "a command is missing");
     }
-    wrong(system, command, what, word, b"", LISTED, b"")
+    let near = Command::nearest(word);
+    let mut what = Text::<ROOM>::new();
+    what.say("there is no command ");
+    what.put(word);
+    if let Some(near) = near {
+        what.say(format_args!(": did you mean {near}?"));
+    }
+    wrong(system, near, what.as_bytes())
 }
 
-fn no_command(system: &System, word: &[u8]) -> bool {
-    if word.len() == 0 {
-        return wrong(
+fn no_option(system: &System, command: Command, word: &[u8]) -> Trouble {
+    let mut what = Text::<ROOM>::new();
+    what.say("there is no option ");
+    what.put(word);
+    if let Some(near) = Opt::nearest(word) {
+        what.say(format_args!(": did you mean {near}?"));
+    }
+    wrong(system, Some(command), what.as_bytes())
+}
+
+// An option that the command does not take, or that stood there before.
+fn wrong_option(system: &System, command: Command, word: &[u8]) -> Trouble {
+    let Some(option) = Opt::named(word) else {
+        return no_option(system, command, word);
+    };
+    let mut what = Text::<ROOM>::new();
+    if command.takes(option) {
+        what.put(word);
+        what.say(" stands there twice");
+    } else {
+        what.say(format_args!("{command} takes no "));
+        what.put(word);
+    }
+    wrong(system, Some(command), what.as_bytes())
+}
+
+fn check_options(system: &System, command: Command) -> Result<(), Trouble> {
+    if let Some(word) = commands::wrong_option(system, command) {
+        return Err(wrong_option(system, command, word.as_bytes()));
+    }
+    match commands::lacking_value(system) {
+        Some(option) => Err(wrong_words(
             system,
-            COMMANDS,
-            b"a command is missing",
-            b"",
-            b"",
-            LISTED,
-            b"",
-        );
+            Some(command),
+            format_args!("{option} wants the name of a file behind it"),
+        )),
+        None => Ok(()),
     }
-    let near = commands::nearest_command(word);
-    unknown(system, near, b"there is no command ", word, near, COMMANDS)
 }
 
-fn wrong_option(system: &System, command: u32, word: &[u8]) -> bool {
-    let option = commands::letter(word);
-    if option == UNKNOWN {
-        let near = commands::nearest_option(text::part(word, 0, text::find(word, 0, b'=')));
-        return unknown(system, command, b"there is no option ", word, near, LISTED);
-    }
-    if commands::takes(command, option) {
-        return wrong(
-            system,
-            command,
-            word,
-            b" stands there twice",
-            b"",
-            LISTED,
-            b"",
-        );
-    }
-    let mut out = [0u8; 4200];
-    let at = text::put(&mut out, 0, b" takes no ");
-    let end = text::put(&mut out, at, word);
-    wrong(
+// The form that was meant has n words more.
+fn missing(system: &System, command: Command, form: Form, n: usize) -> Trouble {
+    let words = if n == 1 { "word is" } else { "words are" };
+    wrong_words(
         system,
-        command,
-        b"",
-        b"",
-        b"",
-        command,
-        text::part(&out, 0, end),
+        Some(command),
+        format_args!("{command} wants{form}: {n} {words} missing"),
     )
 }
 
-fn missing(system: &System, command: u32, form: u32, n: usize) -> bool {
-    let mut out = [0u8; 128];
-    let at = commands::put_name(&mut out, 0, form);
-    let at = text::put(&mut out, at, b" wants");
-    let end = commands::put_words(&mut out, at, form);
-    let mut count = [0u8; 64];
-    let words = if n == 1 { 1 } else { 2 };
-    let form = lines::line(b": 1 word is missing\n: %n words are missing", words);
-    let m = phrases::fill(&mut count, 0, form, [text::narrowed(n), 0, 0, 0, 0, 0]);
-    let wanted = text::part(&out, 0, end);
-    wrong(
-        system,
-        command,
-        wanted,
-        text::part(&count, 0, m),
-        b"",
-        LISTED,
-        b"",
-    )
+// The last n words are too many, from this one on.
+fn too_many(system: &System, command: Command, n: usize, first: &[u8]) -> Trouble {
+    let mut what = Text::<ROOM>::new();
+    let plural = if n == 1 { "" } else { "s" };
+    what.say(format_args!("{n} word{plural} too many, from "));
+    what.put(first);
+    what.say(" on");
+    wrong(system, Some(command), what.as_bytes())
 }
 
-fn too_many(system: &System, command: u32, most: usize, n: usize) -> bool {
-    let mut out = [0u8; 64];
-    let count = text::narrowed(n);
-    let end = phrases::fill(
-        &mut out,
-        0,
-        b"%n word%s too many, from ",
-        [count, count, 0, 0, 0, 0],
-    );
-    let mut space = system::buffer();
-    let m = commands::word(system, most, &mut space);
-    let first = text::part(&space, 0, m);
-    wrong(
-        system,
-        command,
-        text::part(&out, 0, end),
-        first,
-        b" on",
-        LISTED,
-        b"",
-    )
-}
-
-// Whether there are as many words as some form of the command wants.
-fn words_fit(system: &System, command: u32) -> bool {
+// That there are as many words as some form of the command wants.
+fn check_words(system: &System, command: Command) -> Result<(), Trouble> {
     let words = commands::count(system);
-    let form = commands::form(command, words);
-    let least = commands::least(form);
-    let most = commands::most(form);
+    let form = command.form(words);
+    let least = form.least();
+    let most = form.most();
     if words < least {
-        return missing(system, command, form, least - words);
+        return Err(missing(system, command, form, least - words));
     }
     if most < words {
-        return too_many(system, command, most, words - most);
+        let first = commands::word(system, most);
+        return Err(too_many(system, command, words - most, first.as_bytes()));
     }
-    true
-}
-
-// Whether word i is this one.
-fn is(system: &System, i: usize, what: &[u8]) -> bool {
-    let mut space = system::buffer();
-    let n = commands::word(system, i, &mut space);
-    text::same(text::part(&space, 0, n), what)
+    Ok(())
 }
 
 // Whether word i is a dash where only a file may stand.
-fn lacks_file(system: &System, command: u32, i: usize) -> bool {
-    is(system, i, b"-")
-        && commands::kind(command, i) != NO_FILE
-        && !commands::takes_stream(command, i)
+fn lacks_file(system: &System, command: Command, i: usize) -> bool {
+    commands::is_stream(commands::word(system, i).as_bytes())
+        && command.file(i).is_some_and(|file| !file.takes_stream)
 }
 
-fn is_value_dash(system: &System, option: u8) -> bool {
-    let mut space = system::buffer();
-    let n = commands::value(system, option, &mut space);
-    text::same(text::part(&space, 0, n), b"-")
+fn is_value_stream(system: &System, option: Opt) -> bool {
+    commands::value(system, option).is_some_and(|value| commands::is_stream(value.as_bytes()))
 }
 
-// Whether each word that is a dash may stand for a standard stream.
-fn files_fit(system: &System, command: u32) -> bool {
-    let lacks_one = lacks_file(system, command, 2)
-        || lacks_file(system, command, 3)
-        || lacks_file(system, command, 4);
-    if lacks_one || is_value_dash(system, JOURNAL) || is_value_dash(system, WITH_FILE) {
-        return wrong(
+// That each word that is a dash may stand for a standard stream.
+fn check_files(system: &System, command: Command) -> Result<(), Trouble> {
+    if (2..5).any(|i| lacks_file(system, command, i))
+        || is_value_stream(system, Opt::Journal)
+        || is_value_stream(system, Opt::File)
+    {
+        return Err(wrong_words(
             system,
-            command,
-            b"- is a standard stream: ",
-            b"",
-            b"",
-            command,
-            b" wants a file there",
-        );
+            Some(command),
+            format_args!("- is a standard stream: {command} wants a file there"),
+        ));
     }
-    true
+    Ok(())
 }
 
-fn options_fit(system: &System, command: u32) -> bool {
-    let at = commands::wrong_option(system, command);
-    let mut space = system::buffer();
-    let n = system.argument(at, &mut space);
-    if 0 < n {
-        return wrong_option(system, command, text::part(&space, 0, n));
+fn is_help(word: &[u8]) -> bool {
+    word == b"help".as_slice()
+}
+
+// Says help on the command that word i names, or on all where there is no such word.
+fn help_on(system: &System, i: usize) -> Result<(), Trouble> {
+    let word = commands::word(system, i);
+    let word = word.as_bytes();
+    let command = Command::named(word);
+    if command.is_none() && !word.is_empty() && !is_help(word) {
+        return Err(no_command(system, word));
     }
-    let lacking = commands::lacking_value(system);
-    if lacking < LISTED {
-        return wrong(
-            system,
-            command,
-            b"",
-            b"",
-            b"",
-            lacking,
-            b" wants the name of a file behind it",
-        );
-    }
-    true
+    terminal::say(system, Stream::Output, Help(command), Status::Done)?;
+    Ok(())
 }
 
-fn fits(system: &System, command: u32) -> bool {
-    options_fit(system, command) && words_fit(system, command) && files_fit(system, command)
-}
-
-fn said(system: &System, is_written: bool) -> bool {
-    if !is_written {
-        system.fail(b"the answer could not be written");
-    }
-    is_written
-}
-
-// Help on the command that word i names, or on all where there is no such word.
-fn help_on(system: &System, i: usize) -> bool {
-    let mut space = system::buffer();
-    let n = commands::word(system, i, &mut space);
-    let word = text::part(&space, 0, n);
-    let command = commands::named(word);
-    if command == COMMANDS && n != 0 && !is(system, i, b"help") {
-        return no_command(system, word);
-    }
-    said(system, help::tell(system, Stream::Output, command))
-}
-
-fn no_such_command(system: &System) -> bool {
-    let mut space = system::buffer();
-    let n = commands::word(system, 1, &mut space);
-    no_command(system, text::part(&space, 0, n))
-}
-
-fn helped(is_said: bool) -> Words {
-    if is_said {
-        return Words::Helped;
-    }
-    Words::Wrong
-}
-
-// The command that the words name, where they are as it takes them; all else is told here.
-pub fn first_words(system: &System) -> Words {
+// The command that the words name, where they are as it takes them; none where help or the version was asked for, which is said.
+pub fn first_words(system: &System) -> Result<Option<Command>, Trouble> {
     if system.argument_count() < 2 {
-        help::tell(system, Stream::Error, COMMANDS);
-        return Words::Wrong;
+        let mut help = Text::<ROOM>::new();
+        help.say(Help(None));
+        system.tell(help.as_bytes());
+        return Err(Trouble);
     }
-    if commands::has(system, VERSION) {
-        return helped(said(system, help::tell_version(system, Stream::Output)));
+    if commands::has(system, Opt::Version) {
+        terminal::say(system, Stream::Output, Version, Status::Done)?;
+        return Ok(None);
     }
-    if is(system, 1, b"help") {
-        return helped(help_on(system, 2));
+    if is_help(commands::word(system, 1).as_bytes()) {
+        help_on(system, 2)?;
+        return Ok(None);
     }
-    if commands::has(system, HELP) {
-        return helped(help_on(system, 1));
+    if commands::has(system, Opt::Help) {
+        help_on(system, 1)?;
+        return Ok(None);
     }
-    let command = commands::command(system);
-    if command == COMMANDS {
-        no_such_command(system);
-        return Words::Wrong;
-    }
-    if fits(system, command) {
-        return Words::Go(command);
-    }
-    Words::Wrong
+    let Some(command) = commands::command(system) else {
+        return Err(no_command(system, commands::word(system, 1).as_bytes()));
+    };
+    check_options(system, command)?;
+    check_words(system, command)?;
+    check_files(system, command)?;
+    Ok(Some(command))
 }

@@ -1,220 +1,205 @@
 // Cause 31: the place at which bytes are no file of series, what stands there and what belongs there.
-use crate::forms::tell;
-use crate::parts;
+use crate::parts::{Bands, Neighbours, Refused};
+use base::{Cause, Tier};
 use dates::DAYS;
 use fields::{CONTENT, DAY_FIELD, DAY_LENGTH, DAY_TAG, SERIES_FIELD, SERIES_LENGTH, SERIES_TAG};
 use names::LENGTH;
-use phrases::fill;
-use text::{Parsed, put};
+use phrases::Byte;
+use std::fmt::Display;
+use std::{fmt, str};
+use text::Date;
 
 const LAST_DAY: u32 = DAYS as u32 - 1;
+
+// What names begin with.
+const PREFIX: [u8; 4] = *b"OW20";
 
 // Where a name has the digits of its price.
 const PRICE: usize = 7;
 
-// A place by its field, 0 for the day's or the number of a series, and by where it stands in the field. Fields before it are
-// whole.
+// The bytes before the content of each field: tag and length.
+const DAY_LEAD: [u8; CONTENT] = [DAY_TAG, DAY_LENGTH as u8, 0];
+
+const SERIES_LEAD: [u8; CONTENT] = [SERIES_TAG, SERIES_LENGTH as u8, 0];
+
+// The day's field, or that of a series, counted from 1.
+#[derive(Clone, Copy)]
+enum Field {
+    Day,
+    Series(usize),
+}
+
+// A place by its field and by where it stands in it. Fields before it are whole.
 #[derive(Clone, Copy)]
 struct Spot {
-    series: u32,
-    place: u32,
+    field: Field,
+    place: usize,
 }
 
-fn spot_of(place: u32) -> Spot {
-    let day = DAY_FIELD as u32;
-    let size = SERIES_FIELD as u32;
-    if place < day {
-        return Spot {
-            series: 0,
-            place: place,
-        };
-    }
-    Spot {
-        series: (place - day) / size + 1,
-        place: (place - day) % size,
-    }
-}
-
-// Which part of which field it is, by its letter.
-fn part_of(spot: Spot) -> u8 {
-    let place = spot.place;
-    if spot.series == 0 {
-        return match place {
-            0 => b't',
-            1 => b'l',
-            2 => b'h',
-            _ => b'd',
-        };
-    }
-    match place {
-        0 => b'T',
-        1 => b'L',
-        2 => b'H',
-        3..=13 => b'c',
-        _ => b'o',
-    }
-}
-
-// What belongs there, by its letter.
-fn due_at(spot: Spot) -> u8 {
-    let place = spot.place;
-    if spot.series == 0 && CONTENT as u32 <= place {
-        return b'd';
-    }
-    match place {
-        0..=2 => b'b',
-        3 => b'O',
-        4 => b'W',
-        5 => b'2',
-        6 => b'0',
-        7 => b'm',
-        8..=9 => b'y',
-        10..=13 => b'p',
-        _ => b'o',
-    }
-}
-
-// The bytes of tag and length.
-fn lead_of(spot: Spot) -> u32 {
-    let place = spot.place;
-    let is_day = spot.series == 0;
-    match place {
-        0 => if is_day {
-            DAY_TAG as u32
-        } else {
-            SERIES_TAG as u32
+fn spot_of(place: usize) -> Spot {
+    match place.checked_sub(DAY_FIELD) {
+        None => Spot {
+            field: Field::Day,
+            place,
         },
-        1 => if is_day {
-            DAY_LENGTH as u32
-        } else {
-            SERIES_LENGTH as u32
+        Some(place) => Spot {
+            field: Field::Series(place / SERIES_FIELD + 1),
+            place: place % SERIES_FIELD,
         },
-        _ => 0,
+    }
+}
+
+// Which part of which field it is.
+impl Display for Spot {
+    fn fmt<W: fmt::Write>(&self, f: &mut fmt::Formatter<W>) -> fmt::Result {
+        match self.field {
+            Field::Day => f.write_str(match self.place {
+                0 => "the day, its tag",
+                1 => "the day, the low byte of its length",
+                2 => "the day, the high byte of its length",
+                _ => "the day, its two bytes",
+            }),
+            Field::Series(number) => match self.place {
+                0 => write!(f, "series {number}, its tag"),
+                1 => write!(f, "series {number}, the low byte of its length"),
+                2 => write!(f, "series {number}, the high byte of its length"),
+                3..=13 => {
+                    let character = self.place - CONTENT + 1;
+                    write!(f, "series {number}, character {character} of its name")
+                }
+                _ => write!(f, "series {number}, its origin"),
+            },
+        }
+    }
+}
+
+// What belongs at a place.
+#[derive(Clone, Copy)]
+struct Due(Spot);
+
+impl Display for Due {
+    fn fmt<W: fmt::Write>(&self, f: &mut fmt::Formatter<W>) -> fmt::Result {
+        let Spot { field, place } = self.0;
+        match (field, place) {
+            (Field::Day, 0..=2) => write!(f, "byte {} belongs", DAY_LEAD[place]),
+            (Field::Day, _) => f.write_str("they belong"),
+            (Field::Series(_), 0..=2) => write!(f, "byte {} belongs", SERIES_LEAD[place]),
+            (Field::Series(_), 3..=6) => {
+                let due = char::from(PREFIX[place - CONTENT]);
+                write!(f, "{due} belongs: names begin with OW20")
+            }
+            (Field::Series(_), 7) => f.write_str(
+                "a letter belongs: A to L for calls of January to December, M to X for puts",
+            ),
+            (Field::Series(_), 8..=9) => f.write_str("a digit of the year belongs"),
+            (Field::Series(_), 10..=13) => f.write_str("a digit of the price belongs"),
+            (Field::Series(_), _) => f.write_str("a byte from 1 to 5 belongs"),
+        }
     }
 }
 
 // A byte that cannot stand there, or none.
-fn misplaced(out: &mut [u8], at: usize, file: &[u8], place: u32, spot: Spot) -> usize {
-    let start = CONTENT as u32;
-    let character = if start <= spot.place {
-        spot.place - start + 1
-    } else {
-        0
-    };
-    let at = tell(
-        out,
-        at,
-        b"|tthe day, its tag|lthe day, the low byte of its length|hthe day, the high byte of its length|dthe day, its two bytes\
-          |Tseries %n, its tag|Lseries %n, the low byte of its length|Hseries %n, the high byte of its length\
-          |cseries %n, character %n of its name|oseries %n, its origin",
-        part_of(spot),
-        [spot.series, character, 0, 0, 0, 0],
-    );
-    let is_there = (place as usize) < file.len();
-    let at = tell(
-        out,
-        at,
-        b"|b: byte %b where |e: the bytes end where ",
-        if is_there { b'b' } else { b'e' },
-        [reading::byte_at(file, place as usize), 0, 0, 0, 0, 0],
-    );
-    tell(
-        out,
-        at,
-        b"|bbyte %n belongs|dthey belong\
-          |OO belongs: names begin with OW20|WW belongs: names begin with OW20\
-          |22 belongs: names begin with OW20|00 belongs: names begin with OW20\
-          |ma letter belongs: A to L for calls of January to December, M to X for puts\
-          |ya digit of the year belongs|pa digit of the price belongs\
-          |oa byte from 1 to 5 belongs",
-        due_at(spot),
-        [lead_of(spot), 0, 0, 0, 0, 0],
-    )
+fn misplaced<W: fmt::Write>(
+    f: &mut fmt::Formatter<W>,
+    byte: Option<&u8>,
+    spot: Spot,
+) -> fmt::Result {
+    match byte {
+        Some(&byte) => write!(f, "{spot}: byte {} where {}", Byte(byte), Due(spot)),
+        None => write!(f, "{spot}: the bytes end where {}", Due(spot)),
+    }
 }
 
 // A day that is none.
-fn past_days(out: &mut [u8], at: usize, file: &[u8]) -> usize {
-    let day = reading::word_at(file, CONTENT);
-    fill(
-        out,
-        at,
-        b"the day, %n, is past %n, which is %d, the last one",
-        [day, LAST_DAY, LAST_DAY, 0, 0, 0],
-    )
-}
-
-fn off_grid(out: &mut [u8], at: usize, name: &[u8]) -> usize {
-    let digits = text::part(name, PRICE, name.len());
-    let Parsed::Number(price) = text::read_number(digits) else {
-        return at;
+fn past_days<W: fmt::Write>(f: &mut fmt::Formatter<W>, file: &[u8]) -> fmt::Result {
+    let Some(day) = file.get(CONTENT..DAY_FIELD) else {
+        return Ok(());
     };
-    let form = b": its price, %n, is not on the grid of tier N: ";
-    let at = fill(out, at, form, [price, 0, 0, 0, 0, 0]);
-    let at = parts::bands(out, at, 0);
-    parts::neighbours(out, at, 0, price)
-}
-
-// The name that begins at a place.
-fn name_at(file: &[u8], place: u32) -> &[u8] {
-    let start = place as usize;
-    text::part(file, start, start + LENGTH as usize)
-}
-
-fn not_above(out: &mut [u8], at: usize, file: &[u8], place: u32) -> usize {
-    let size = SERIES_FIELD as u32;
-    let before = if size <= place { place - size } else { 0 };
-    let at = put(out, at, b" is not above ");
-    let at = put(out, at, name_at(file, before));
-    put(
-        out,
-        at,
-        b", the name before it: names ascend, and each stands once",
+    write!(
+        f,
+        "the day, {}, is past {LAST_DAY}, which is {}, the last one",
+        base::word(day, 0),
+        Date(LAST_DAY),
     )
+}
+
+// The name that begins at a place. Its bytes were judged, so that they are text.
+fn name_at(file: &[u8], place: usize) -> &str {
+    let rest = file.get(place..).unwrap_or(&[]);
+    let name = rest.get(..usize::from(LENGTH)).unwrap_or(&[]);
+    str::from_utf8(name).unwrap_or("")
+}
+
+fn is_name(text: &str) -> bool {
+    names::read(text.as_bytes()).is_ok()
 }
 
 // A series whose bytes can all stand.
-fn unfit(out: &mut [u8], at: usize, file: &[u8], place: u32, number: u32) -> usize {
+fn unfit<W: fmt::Write>(
+    f: &mut fmt::Formatter<W>,
+    file: &[u8],
+    place: usize,
+    number: usize,
+) -> fmt::Result {
     let name = name_at(file, place);
-    let at = fill(out, at, b"series %n, ", [number, 0, 0, 0, 0, 0]);
-    let at = put(out, at, name);
-    let series = names::read(name);
-    if series.number == 0 {
-        return not_above(out, at, file, place);
+    write!(f, "series {number}, {name}")?;
+    if is_name(name) {
+        let before = name_at(file, place.saturating_sub(SERIES_FIELD));
+        return write!(
+            f,
+            " is not above {before}, the name before it: names ascend, and each stands once",
+        );
     }
-    off_grid(out, at, name)
+    off_grid(f, name)
 }
 
-// Whether the byte there can stand, and its field was judged by all of its content.
-fn is_content(file: &[u8], place: usize, spot: Spot) -> bool {
-    if file.len() <= place || spot.place != CONTENT as u32 {
-        return false;
-    }
-    spot.series == 0 || names::can_stand(0, file[place])
-}
-
-fn fault(out: &mut [u8], at: usize, file: &[u8], place: u32) -> usize {
-    let spot = spot_of(place);
-    if is_content(file, place as usize, spot) {
-        if spot.series == 0 {
-            return past_days(out, at, file);
-        }
-        return unfit(out, at, file, place, spot.series);
-    }
-    misplaced(out, at, file, place, spot)
+fn off_grid<W: fmt::Write>(f: &mut fmt::Formatter<W>, name: &str) -> fmt::Result {
+    let digits = name.as_bytes().get(PRICE..).unwrap_or(&[]);
+    let Some(price) = text::read_number(digits) else {
+        return Ok(());
+    };
+    let tier = Tier::N;
+    write!(
+        f,
+        ": its price, {price}, is not on the grid of tier N: {}{}",
+        Bands(tier),
+        Neighbours { tier, price },
+    )
 }
 
 // 31: the bytes, and the place that stands beside it.
-pub fn file_refusal(out: &mut [u8], at: usize, file: &[u8], place: u32) -> usize {
-    let at = fill(
-        out,
-        at,
-        b"refused, cause 31: the bytes are no file of series: place %n, counted from 0\n  ",
-        [place, 0, 0, 0, 0, 0],
-    );
-    let at = fault(out, at, file, place);
-    put(
-        out,
-        at,
-        b"\n  get the file again, or make it anew: sindhopul file CALENDAR REGISTER FILE\n",
-    )
+#[derive(Clone, Copy)]
+pub struct FileRefusal<'a> {
+    pub file: &'a [u8],
+    pub place: u32,
+}
+
+impl Display for FileRefusal<'_> {
+    fn fmt<W: fmt::Write>(&self, f: &mut fmt::Formatter<W>) -> fmt::Result {
+        let file = self.file;
+        let place = self.place as usize;
+        let refused = Refused(Cause::FileForm(self.place));
+        write!(
+            f,
+            "{refused}the bytes are no file of series: place {place}, counted from 0\n  "
+        )?;
+        let byte = file.get(place);
+        let spot = spot_of(place);
+        // A field is judged by all of its content where the first byte of that can stand.
+        match spot.field {
+            Field::Day if spot.place == CONTENT && byte.is_some() => past_days(f, file)?,
+            Field::Series(number) if spot.place == CONTENT && can_begin(byte) => {
+                unfit(f, file, place, number)?
+            }
+            _ => misplaced(f, byte, spot)?,
+        }
+        f.write_str(
+            "\n  get the file again, or make it anew: sindhopul file CALENDAR REGISTER FILE\n",
+        )
+    }
+}
+
+// Whether a name may begin with a byte.
+fn can_begin(byte: Option<&u8>) -> bool {
+    byte.is_some_and(|&byte| names::can_stand(0, byte))
 }

@@ -2,46 +2,58 @@
 #![tactic(auto)]
 
 mod faults;
-mod forms;
 mod opening;
 mod parts;
 mod series;
 mod sessions;
 mod strikes;
 
-use base::causes;
-pub use faults::file_refusal;
-pub use parts::{bands, live_months, neighbours};
-pub use series::name_refusal;
+use base::Cause;
+use calls::Call;
+pub use faults::FileRefusal;
+pub use opening::{CalendarRefusal, OpeningRefusal};
+use parts::Refused;
+pub use parts::{Bands, LiveMonths, Neighbours};
+use reading::Register;
+pub use series::NameRefusal;
+use std::fmt;
+use std::fmt::Display;
+pub use strikes::RowsRefusal;
 
-// A calendar's refusal, 11 to 13: `length` is the calendar's, `month` stands beside 13.
-pub fn calendar_refusal(out: &mut [u8], at: usize, length: u32, number: u16, month: u32) -> usize {
-    opening::refusal(out, at, number, length, month, 0, 0)
+// A call's refusal, 11 to 25. The register is as it was before the call.
+#[derive(Clone, Copy)]
+pub struct CallRefusal<'a> {
+    pub register: Register<'a>,
+    pub cause: Cause,
+    pub call: Call,
 }
 
-// A register call's refusal, 11 to 26: its number, the first value beside it, and the call's two arguments.
-pub fn refusal(
-    out: &mut [u8],
-    at: usize,
-    calendar: &[u8],
-    register: &[u8],
-    number: u16,
-    value: u32,
-    x: u32,
-    y: u32,
-) -> usize {
-    let stands = reading::day(register);
-    let next = lookup::lookup_next_session(calendar, stands);
-    if number <= causes::EMPTY {
-        let length = if number <= causes::CALENDAR_MONTH {
-            text::narrowed(calendar.len())
-        } else {
-            text::narrowed(register.len())
-        };
-        return opening::refusal(out, at, number, length, value, stands, next);
+impl Display for CallRefusal<'_> {
+    fn fmt<W: fmt::Write>(&self, f: &mut fmt::Formatter<W>) -> fmt::Result {
+        let register = self.register;
+        write!(f, "{}", Refused(self.cause))?;
+        match (self.cause, self.call) {
+            (Cause::StartDay, Call::Start(day, _)) => {
+                sessions::no_session(f, register.calendar, day)
+            }
+            (Cause::SessionDay, Call::Session(day, _)) => {
+                sessions::out_of_order(f, register, day)
+            }
+            (Cause::TooLate, call) => sessions::too_late(f, register, call),
+            (Cause::Close, Call::Start(_, close) | Call::Session(_, close)) => {
+                sessions::close_outside(f, close)
+            }
+            (Cause::AnnounceMonth, Call::Announce(month, _)) => {
+                strikes::month_closed(f, register, month)
+            }
+            (Cause::AnnouncePrice, Call::Announce(month, price)) => {
+                strikes::off_grid(f, register, month, price)
+            }
+            (Cause::AnnounceKnown, Call::Announce(month, price)) => {
+                strikes::needless(f, register, month, price)
+            }
+            (Cause::AnnounceFull, _) => strikes::full(f, register),
+            (cause, _) => opening::opening_refused(f, register, cause),
+        }
     }
-    if number <= causes::CLOSE {
-        return sessions::refusal(out, at, calendar, register, number, stands, next, x, y);
-    }
-    strikes::refusal(out, at, calendar, register, number, stands, next, x, y)
 }

@@ -1,90 +1,105 @@
-// What several answers tell: the live months, a tier's grid, and the grid prices around one that is not on it.
-use crate::forms::tell;
-use lookup::lookup_live_month;
-use phrases::fill;
+// What several answers tell: how a refusal begins, the live months, a tier's grid, and the grid prices around one that is not
+// on it.
+use base::{Cause, Tier};
+use reading::Register;
+use std::fmt;
+use std::fmt::Display;
+use text::{Date, Month};
 
 // No price is as high as this: a name has four digits for it.
 const PAST_PRICES: u32 = 10000;
 
-// The six live months whose first is given.
-pub fn months(first: u32) -> [u32; 6] {
-    [
-        lookup_live_month(first, 0),
-        lookup_live_month(first, 1),
-        lookup_live_month(first, 2),
-        lookup_live_month(first, 3),
-        lookup_live_month(first, 4),
-        lookup_live_month(first, 5),
-    ]
+// How each refusal begins.
+#[derive(Clone, Copy)]
+pub struct Refused(pub Cause);
+
+impl Display for Refused {
+    fn fmt<W: fmt::Write>(&self, f: &mut fmt::Formatter<W>) -> fmt::Result {
+        write!(f, "refused, cause {}: ", self.0.number())
+    }
 }
 
-// The six live months of the register's day.
-pub fn live_months(out: &mut [u8], at: usize, register: &[u8]) -> usize {
-    let months = months(reading::first_live(register));
-    fill(out, at, b"\n  live months: %m %m %m %m %m %m", months)
+// The next session after a register's day. A register that stands has one.
+#[derive(Clone, Copy)]
+pub struct NextSession<'a>(pub Register<'a>);
+
+impl Display for NextSession<'_> {
+    fn fmt<W: fmt::Write>(&self, f: &mut fmt::Formatter<W>) -> fmt::Result {
+        match self.0.next_session() {
+            Some(day) => Date(day).fmt(f),
+            None => Ok(()),
+        }
+    }
+}
+
+// Months, each behind a blank.
+#[derive(Clone, Copy)]
+pub struct Months<'a>(pub &'a [u32]);
+
+impl Display for Months<'_> {
+    fn fmt<W: fmt::Write>(&self, f: &mut fmt::Formatter<W>) -> fmt::Result {
+        for &month in self.0 {
+            write!(f, " {}", Month(month))?;
+        }
+        Ok(())
+    }
+}
+
+// The six live months, in a line behind another one.
+#[derive(Clone, Copy)]
+pub struct LiveMonths<'a>(pub Register<'a>);
+
+impl Display for LiveMonths<'_> {
+    fn fmt<W: fmt::Write>(&self, f: &mut fmt::Formatter<W>) -> fmt::Result {
+        write!(f, "\n  live months:{}", Months(&self.0.live_months()))
+    }
 }
 
 // The bands of a tier's grid.
-pub fn bands(out: &mut [u8], at: usize, tier: u32) -> usize {
-    let letter = match tier {
-        0 => b'N',
-        1 => b'M',
-        _ => b'F',
-    };
-    tell(
-        out,
-        at,
-        b"|N5 to 475 by 5, 480 to 990 by 10, 1000 to 9975 by 25\
-          |M10 to 470 by 10, 480 to 980 by 20, 1000 to 9950 by 50\
-          |F20 to 460 by 20, 480 to 960 by 40, 1000 to 9900 by 100",
-        letter,
-        [0; 6],
-    )
-}
+#[derive(Clone, Copy)]
+pub struct Bands(pub Tier);
 
-// The grid prices around the asked one.
-pub fn neighbours(out: &mut [u8], at: usize, tier: u32, price: u32) -> usize {
-    let below = price_below(tier, price);
-    let above = price_above(tier, price);
-    let nearest = if below == 0 { above } else { below };
-    let letter = if below == 0 {
-        b'a'
-    } else if above == 0 {
-        b'b'
-    } else {
-        b'm'
-    };
-    tell(
-        out,
-        at,
-        b"|a\n  the nearest: %n (above)\
-          |b\n  the nearest: %n (below)\
-          |m\n  the nearest: %n (below) %n (above)",
-        letter,
-        [nearest, above, 0, 0, 0, 0],
-    )
-}
-
-// The highest price of the grid that is not above a price; 0 where there is none.
-fn price_below(tier: u32, price: u32) -> u32 {
-    let mut below = PAST_PRICES;
-    while 0 < below {
-        if below <= price && lookup::lookup_on_grid(tier, below) == 1 {
-            return below;
-        }
-        below -= 1;
+impl Display for Bands {
+    fn fmt<W: fmt::Write>(&self, f: &mut fmt::Formatter<W>) -> fmt::Result {
+        f.write_str(match self.0 {
+            Tier::N => "5 to 475 by 5, 480 to 990 by 10, 1000 to 9975 by 25",
+            Tier::M => "10 to 470 by 10, 480 to 980 by 20, 1000 to 9950 by 50",
+            Tier::F => "20 to 460 by 20, 480 to 960 by 40, 1000 to 9900 by 100",
+        })
     }
-    0
 }
 
-// The lowest price of the grid that is not below a price; 0 where there is none.
-fn price_above(tier: u32, price: u32) -> u32 {
-    let mut above = price;
-    while above < PAST_PRICES {
-        if lookup::lookup_on_grid(tier, above) == 1 {
-            return above;
-        }
-        above += 1;
+// The grid prices around the asked one, in a line behind another one.
+#[derive(Clone, Copy)]
+pub struct Neighbours {
+    pub tier: Tier,
+    pub price: u32,
+}
+
+impl Neighbours {
+    // The highest price of the grid that is not above the asked one.
+    fn below(self) -> Option<u32> {
+        let end = self.price.min(PAST_PRICES);
+        (1..=end)
+            .rev()
+            .find(|&price| grid::on_grid(self.tier, price))
     }
-    0
+
+    // The lowest price of the grid that is not below the asked one.
+    fn above(self) -> Option<u32> {
+        (self.price..PAST_PRICES).find(|&price| grid::on_grid(self.tier, price))
+    }
+}
+
+impl Display for Neighbours {
+    fn fmt<W: fmt::Write>(&self, f: &mut fmt::Formatter<W>) -> fmt::Result {
+        match (self.below(), self.above()) {
+            (None, None) => Ok(()),
+            (None, Some(above)) => write!(f, "\n  the nearest: {above} (above)"),
+            (Some(below), None) => write!(f, "\n  the nearest: {below} (below)"),
+            (Some(below), Some(above)) => {
+                write!(f, "\n  the nearest: {below} (below) {above} (above)")
+            }
+        }
+    }
 }

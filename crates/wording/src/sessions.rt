@@ -1,157 +1,144 @@
 // Causes 18 to 21: the day and the close of a start or a session. 20 is also an announcement's.
-use crate::forms::tell;
-use base::causes;
+use crate::parts::NextSession;
+use calls::Call;
 use dates::{DAYS, MONTHS};
 use grid::{HIGHEST_CLOSE, LOWEST_CLOSE};
-use phrases::fill;
+use reading::Register;
 use rules::LAST_FIRST_MONTH;
-use text::put;
+use std::cmp::Ordering;
+use std::fmt;
+use std::fmt::Display;
+use text::{Date, Month, Points};
 
 const LAST_DAY: u32 = DAYS as u32 - 1;
 
-// 18: the day asked for and the next session after it.
-fn no_session(day: u32, after: u32) -> u8 {
+// The days of a week from day 0 on.
+const WEEKDAYS: [&str; 7] = [
+    "Saturday",
+    "Sunday",
+    "Monday",
+    "Tuesday",
+    "Wednesday",
+    "Thursday",
+    "Friday",
+];
+
+// A day without session, by its weekday.
+#[derive(Clone, Copy)]
+struct QuietDay(u32);
+
+fn quiet(calendar: &[u8], day: u32) -> Option<QuietDay> {
+    (day <= LAST_DAY && !lookup::has_session(calendar, day)).then_some(QuietDay(day))
+}
+
+impl Display for QuietDay {
+    fn fmt<W: fmt::Write>(&self, f: &mut fmt::Formatter<W>) -> fmt::Result {
+        let place = self.0 % 7;
+        write!(f, "a {}, without session", WEEKDAYS[place as usize])
+    }
+}
+
+// 18.
+pub fn no_session<W: fmt::Write>(
+    f: &mut fmt::Formatter<W>,
+    calendar: &[u8],
+    day: u32,
+) -> fmt::Result {
+    write!(f, "{}", Date(day))?;
+    if let Some(quiet) = quiet(calendar, day) {
+        write!(f, " is {quiet}")?;
+    }
     if LAST_DAY < day {
-        b'p'
-    } else if LAST_DAY < after {
-        b'n'
-    } else {
-        b's'
+        return write!(
+            f,
+            " is past {}, the last day\n  start on a session day up to then\n",
+            Date(LAST_DAY),
+        );
+    }
+    match lookup::next_session(calendar, day) {
+        Some(after) if after <= LAST_DAY => write!(
+            f,
+            "\n  start on a session day; the next after it is {}\n",
+            Date(after),
+        ),
+        _ => f.write_str(", nor has any day after it one\n  start on an earlier day\n"),
     }
 }
 
 // 19.
-fn out_of_order(day: u32, stands: u32, next: u32) -> u8 {
-    if day < stands {
-        b'b'
-    } else if day == stands {
-        b'd'
-    } else if next < day {
-        b'o'
-    } else {
-        b'g'
+pub fn out_of_order<W: fmt::Write>(
+    f: &mut fmt::Formatter<W>,
+    register: Register<'_>,
+    day: u32,
+) -> fmt::Result {
+    let stands = register.day();
+    let next = NextSession(register);
+    write!(f, "{} is not the next session day", Date(day))?;
+    if let Some(quiet) = quiet(register.calendar, day) {
+        write!(f, ": it is {quiet}")?;
     }
+    write!(
+        f,
+        "\n  the register stands at {}; the next session is {next}\n",
+        Date(stands),
+    )?;
+    let is_late = register.next_session().is_some_and(|next| next < day);
+    match day.cmp(&stands) {
+        Ordering::Less => f.write_str(
+            "  the day asked for lies before that: already done, or before the start; look at the journal\n",
+        ),
+        Ordering::Equal => f.write_str(
+            "  that session is already done; sindhopul show CALENDAR REGISTER tells what it left\n  \
+            sindhopul file CALENDAR REGISTER FILE writes the file of its new series\n",
+        ),
+        Ordering::Greater if is_late => write!(
+            f,
+            "  left out: the session of {next} at least\n  \
+            run the sessions in order, or look at the journal for one that was left out\n",
+        ),
+        Ordering::Greater => writeln!(f, "  the day asked for has no session; give {next}"),
+    }
+}
+
+// 20. A start is asked about its own day, any other call about the next session.
+pub fn too_late<W: fmt::Write>(
+    f: &mut fmt::Formatter<W>,
+    register: Register<'_>,
+    call: Call,
+) -> fmt::Result {
+    writeln!(
+        f,
+        "the last month that may be the first live one is March 2099, month {LAST_FIRST_MONTH}",
+    )?;
+    let day = match call {
+        Call::Start(day, _) => Some(day),
+        _ => register.next_session(),
+    };
+    if let Some(day) = day
+        && let Some(first) = lookup::first_live(register.calendar, day)
+        && first < u32::from(MONTHS)
+    {
+        let first = Month(first);
+        writeln!(f, "  on {} the first live one is {first}", Date(day))?;
+    }
+    f.write_str("  the six live months would run past 2099; nothing more can be listed\n")
 }
 
 // 21. A close that would be taken in points was given without the point.
-fn close_outside(close: u32) -> u8 {
-    if close <= HIGHEST_CLOSE / 100 {
-        if LOWEST_CLOSE <= 100 * close {
-            return b'w';
-        }
-    }
-    b'c'
-}
-
-fn letter(number: u16, stands: u32, next: u32, after: u32, first: u32, x: u32, y: u32) -> u8 {
-    match number {
-        causes::START_DAY => no_session(x, after),
-        causes::SESSION_DAY => out_of_order(x, stands, next),
-        causes::TOO_LATE => if first < MONTHS as u32 { b'f' } else { b'l' },
-        _ => close_outside(y),
-    }
-}
-
-// A day without session is said to be one, with its weekday. Day 0 was a Saturday.
-fn quiet_day(out: &mut [u8], at: usize, calendar: &[u8], day: u32, lead: &[u8]) -> usize {
-    if LAST_DAY < day || lookup::lookup_has_session(calendar, day) != 0 {
-        return at;
-    }
-    let at = put(out, at, lead);
-    let at = tell(
-        out,
-        at,
-        b"|0Saturday|1Sunday|2Monday|3Tuesday|4Wednesday|5Thursday|6Friday",
-        b'0' + (day % 7) as u8,
-        [0; 6],
-    );
-    put(out, at, b", without session")
-}
-
-// 18 and 19 begin with the day asked for.
-fn day_asked(out: &mut [u8], at: usize, calendar: &[u8], number: u16, day: u32) -> usize {
-    let values = [day, 0, 0, 0, 0, 0];
-    match number {
-        causes::START_DAY => {
-            let at = fill(out, at, b"refused, cause 18: %d", values);
-            quiet_day(out, at, calendar, day, b" is a ")
-        }
-        causes::SESSION_DAY => {
-            let at = fill(
-                out,
-                at,
-                b"refused, cause 19: %d is not the next session day",
-                values,
-            );
-            quiet_day(out, at, calendar, day, b": it is a ")
-        }
-        _ => at,
-    }
-}
-
-pub fn refusal(
-    out: &mut [u8],
-    at: usize,
-    calendar: &[u8],
-    register: &[u8],
-    number: u16,
-    stands: u32,
-    next: u32,
-    x: u32,
-    y: u32,
-) -> usize {
-    let after = lookup::lookup_next_session(calendar, x);
-    // 20: a start is asked about its own day, any other call about the next session.
-    let day = if reading::row_count(register) == 0 {
-        x
+pub fn close_outside<W: fmt::Write>(f: &mut fmt::Formatter<W>, close: u32) -> fmt::Result {
+    write!(
+        f,
+        "the close {} is outside the range\n  closes go from {} to {}\n",
+        Points(close),
+        Points(LOWEST_CLOSE),
+        Points(HIGHEST_CLOSE),
+    )?;
+    if close <= HIGHEST_CLOSE / 100 && LOWEST_CLOSE <= 100 * close {
+        writeln!(
+            f,
+            "  a number without a point is in hundredths: write {close}.00"
+        )
     } else {
-        next
-    };
-    let first = lookup::lookup_first_live(calendar, day);
-    let letter = letter(number, stands, next, after, first, x, y);
-    let values = match letter {
-        b'p' => [LAST_DAY, 0, 0, 0, 0, 0],
-        b'n' | b's' => [after, 0, 0, 0, 0, 0],
-        b'f' | b'l' => [LAST_FIRST_MONTH as u32, day, first, 0, 0, 0],
-        b'w' | b'c' => [y, LOWEST_CLOSE, HIGHEST_CLOSE, y, 0, 0],
-        _ => [stands, next, next, 0, 0, 0],
-    };
-    let at = day_asked(out, at, calendar, number, x);
-    tell(
-        out,
-        at,
-        b"|p is past %d, the last day\n  \
-          start on a session day up to then\n\
-          |n, nor has any day after it one\n  \
-          start on an earlier day\n\
-          |s\n  \
-          start on a session day; the next after it is %d\n\
-          |b\n  \
-          the register stands at %d; the next session is %d\n  \
-          the day asked for lies before that: already done, or before the start; look at the journal\n\
-          |d\n  \
-          the register stands at %d; the next session is %d\n  \
-          that session is already done; sindhopul show CALENDAR REGISTER tells what it left\n  \
-          sindhopul file CALENDAR REGISTER FILE writes the file of its new series\n\
-          |o\n  \
-          the register stands at %d; the next session is %d\n  \
-          left out: the session of %d at least\n  \
-          run the sessions in order, or look at the journal for one that was left out\n\
-          |g\n  \
-          the register stands at %d; the next session is %d\n  \
-          the day asked for has no session; give %d\n\
-          |frefused, cause 20: the last month that may be the first live one is March 2099, month %n\n  \
-          on %d the first live one is %m\n  \
-          the six live months would run past 2099; nothing more can be listed\n\
-          |lrefused, cause 20: the last month that may be the first live one is March 2099, month %n\n  \
-          the six live months would run past 2099; nothing more can be listed\n\
-          |wrefused, cause 21: the close %c is outside the range\n  \
-          closes go from %c to %c\n  \
-          a number without a point is in hundredths: write %n.00\n\
-          |crefused, cause 21: the close %c is outside the range\n  \
-          closes go from %c to %c\n  \
-          look the close up again\n",
-        letter,
-        values,
-    )
+        f.write_str("  look the close up again\n")
+    }
 }

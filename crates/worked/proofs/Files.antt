@@ -12,7 +12,7 @@ use Rattle.base.proofs.Tests.{and_i, eqb_self}
 use Rattle.grid.specs.Grid.{up_by, band, grid_of, distance, nearest_from, nearest, next_higher, next_lower, neighbours, required, required_low, required_high, close_taken}
 use Rattle.rules.specs.Rulebook.{rules}
 use Rattle.rules.specs.Rulebook as Rulebook
-use Rattle.calls.specs.Calls.{start}
+use Rattle.calls.specs.declared.Call.TheVariants.{Start}
 use Rattle.calls.specs.Listing.{start_body}
 use Rattle.calls.specs.Answers.{after_at}
 use Rattle.layout.specs.Rows.{new_entry, ladder, rows_of}
@@ -43,7 +43,7 @@ module _ (d o : ℕ) where
 
 module _ (cal : List ℕ) (day c : ℕ) (can : CanStart cal day) (ok : close_taken c ≡ true) where
   abbrev bs : List ℕ
-  bs = after_at (rules cal) (start day c) empty_register
+  bs = after_at (rules cal) (Start day c) empty_register
 
   abbrev b : Body
   b = start_body (rules cal) ((rules cal).begin day) c
@@ -74,10 +74,10 @@ module _ (cal : List ℕ) (day c : ℕ) (can : CanStart cal day) (ok : close_tak
 
 -- wherever a start can be
 pub start_file : (cal out : List ℕ) (day : ℕ) → CanStart cal day → 2825 ≤ length out
-    → file_at cal (after_at (rules cal) (start day 241337) empty_register) out ≡ record { number = 0; length = 2825 }
+    → file_at cal (after_at (rules cal) (Start day 241337) empty_register) out ≡ record { number = 0; length = 2825 }
 unfolding Holds grid_of band up_by distance nearest_from nearest next_higher next_lower neighbours required required_low required_high close_taken select least_of greatest_of least greatest within sizes
 start_file cal out day can room =
-    let bs : List ℕ = after_at (rules cal) (start day 241337) empty_register in
+    let bs : List ℕ = after_at (rules cal) (Start day 241337) empty_register in
     let w = start_runs cal day 241337 can refl in
     let rows = (starts_by 241337 33 34 27 94 refl refl refl refl refl refl cal day can).5 in
     let size : 5 + 30 * length (new_rows (at16 bs 2) (body_of bs).rows) ≡ 2825 = omega (arith, new-number cal day 241337 can refl) in

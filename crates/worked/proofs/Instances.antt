@@ -17,7 +17,7 @@ use Rattle.calendar.specs.Live.{first_live, quarterly, next_quarter, live_months
 use Rattle.grid.specs.Grid.{close_taken}
 use Rattle.rules.specs.Rulebook as Rulebook
 use Rattle.rules.specs.Rulebook.{rules}
-use Rattle.calls.specs.Calls.{start}
+use Rattle.calls.specs.declared.Call.TheVariants.{Start}
 use Rattle.layout.specs.Register.{Body}
 use Rattle.base.specs.Words.{at16}
 use Rattle.layout.specs.Bytes.{body_of, moment_of}
@@ -75,7 +75,7 @@ middle_17 = live_of 9817 322 323 M first_17 refl refl
 
 -- the register that a start leaves, and the session on the next day
 abbrev started : List ℕ
-started = after_at (rules every_day) (start 9816 241337) empty_register
+started = after_at (rules every_day) (Start 9816 241337) empty_register
 
 can-move : CanMove every_day started 9817
 unfolding close_taken within body_of moment_of start_body rules Rulebook.begun

@@ -21,7 +21,8 @@ use Rattle.grid.specs.Grid.{grid_of, required_low, required_high, close_taken}
 use Rattle.rules.specs.Rules.{Rules, Moment}
 use Rattle.rules.specs.Rulebook as Rulebook
 use Rattle.rules.specs.Rulebook.{first_at, tier_at, rules, expiry_at}
-use Rattle.calls.specs.Calls.{Call, start, session, announce}
+use Rattle.calls.specs.declared.Call.{Call}
+use Rattle.calls.specs.declared.Call.TheVariants.{Start, Session, Announce}
 use Rattle.rules.proofs.RulebookLaws.{laws}
 use Rattle.layout.specs.Rows.{new_entry, Row, find, prices_of}
 use Rattle.layout.specs.Register.{most_waiting, Body, running, waiting_of, span_low, span_high, listed, announce_causes}
@@ -137,7 +138,7 @@ module _ (cal : List ℕ) (passes : Passes cal) (day c m : ℕ) (t u : Tier) (li
       (λ l. let y = dates-ascend (expiry_of cal) (calendar-dated cal passes) g m l (omega arith) in omega arith)
 
   announce-number : (p : ℕ) (past : List ℕ) (ws : List (ℕ × ℕ)) → waiting_of m ws ≡ past → length ws ≡ length past → (ps : List ℕ)
-      → announceable t u c past (p ∷ ps) ≡ true → number (rules cal) (announce m p) (running (body cal day c ws)) ≡ 0
+      → announceable t u c past (p ∷ ps) ≡ true → number (rules cal) (Announce m p) (running (body cal day c ws)) ≡ 0
   unfolding LiveAs announceable number announce_causes span_low span_high rules Rulebook.begun Rulebook.moved first_at expiry_at tier_at cause first_cause
   announce-number p past ws wait size ps h =
       let on : elem p (grid_of u) ≡ true = and_l (elem p (grid_of u)) _ h in
@@ -168,26 +169,26 @@ module _ (cal : List ℕ) (passes : Passes cal) (day c m : ℕ) (t u : Tier) (li
   -- each is accepted, and they wait
   announced : (ps past : List ℕ) (ws : List (ℕ × ℕ)) (bs : List ℕ) → waiting_of m ws ≡ past → length ws ≡ length past
       → Written cal bs (running (body cal day c ws)) → announceable t u c past ps ≡ true
-      → (all_zero (numbers_at (rules cal) (map (announce m) ps) bs) ≡ true)
-      × (more : List (ℕ × ℕ)) × (waiting_of m more ≡ past ++ ps) × Written cal (final_at (rules cal) (map (announce m) ps) bs) (running (body cal day c more))
+      → (all_zero (numbers_at (rules cal) (map (Announce m) ps) bs) ≡ true)
+      × (more : List (ℕ × ℕ)) × (waiting_of m more ≡ past ++ ps) × Written cal (final_at (rules cal) (map (Announce m) ps) bs) (running (body cal day c more))
   unfolding final_at numbers_at all_zero accepted announce_body announceable
   announced [] past ws bs wait size w h = (refl, ws, rw append-nil wait, w)
   announced (p ∷ ps) past ws bs wait size w h =
-      let n = written-number cal bs (running (body cal day c ws)) w passes (announce m p) ∙ announce-number p past ws wait size ps h in
+      let n = written-number cal bs (running (body cal day c ws)) w passes (Announce m p) ∙ announce-number p past ws wait size ps h in
       let h₁ = and_r (elem p (grid_of u)) _ h in
       let h₂ = and_r (not (within (least (start_prices c t)) (greatest (start_prices c t)) p || elem p past)) _ h₁ in
       let h₃ = and_r (ltb (length past) most_waiting) _ h₂ in
-      let i = announced ps (past ++ (p ∷ [])) (ws ++ ((m, p) ∷ [])) (after_at (rules cal) (announce m p) bs)
+      let i = announced ps (past ++ (p ∷ [])) (ws ++ ((m, p) ∷ [])) (after_at (rules cal) (Announce m p) bs)
       (waiting-more p ws ∙ rw wait)
       (simp (length-append, size))
-      (written_after cal bs (running (body cal day c ws)) w (announce m p) n)
+      (written_after cal bs (running (body cal day c ws)) w (Announce m p) n)
       h₃ in
       (and_i (eq-eqb _ 0 n) i.0, i.1, i.2 ∙ append_assoc past (p ∷ []) ps, i.3)
 
 -- ---- the session, at the bytes
 module _ (cal : List ℕ) (day c d : ℕ) (ws : List (ℕ × ℕ)) (bs : List ℕ) (w : Written cal bs (running (body cal day c ws))) where
   abbrev moves : Call
-  moves = session (next_session cal day) d
+  moves = Session (next_session cal day) d
 
   session-taken : Passes cal → first_live (expiry_of cal) (next_session cal day) ≤ 1190 → close_taken d ≡ true → number_at (rules cal) moves bs ≡ 0
   unfolding number rules Rulebook.begun Rulebook.moved first_at expiry_at cause first_cause
@@ -214,9 +215,9 @@ pub relists_by : (t u : Tier) (c : ℕ) (ps : List ℕ) (d : ℕ) (old new : Rea
 unfolding Holds final_at numbers_at all_zero waiting_of start_body
 relists_by t u c ps d old new o these okc okd fresh e f g cal day m can first live still =
     let passes = can.passes in
-    let begun-at : List ℕ = after_at (rules cal) (start day c) empty_register in
+    let begun-at : List ℕ = after_at (rules cal) (Start day c) empty_register in
     let a = announced cal passes day c m t u live first still ps [] [] begun-at refl refl (start-written cal day c can okc) fresh in
-    let before : List ℕ = final_at (rules cal) (map (announce m) ps) begun-at in
+    let before : List ℕ = final_at (rules cal) (map (Announce m) ps) begun-at in
     let n = session-taken cal day c d a.1 before a.3 passes first okd in
     let rows = rows_after cal day c d a.1 before a.3 n in (
       and_i (eq-eqb _ 0 (start-taken cal day c can okc)) a.0,

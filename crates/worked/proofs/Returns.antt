@@ -7,13 +7,13 @@ use Prim.Native.Nat.{ℕ}
 use Rattle.base.specs.Causes.{cause}
 use Rattle.grid.specs.Grid.{close_taken}
 use Rattle.rules.specs.Rulebook.{rules}
-use Rattle.calls.specs.Calls.{start}
+use Rattle.calls.specs.declared.Call.TheVariants.{Start}
 use Rattle.calls.specs.Answers.{number_at}
 use Rattle.history.specs.Claim.{empty_register}
 use Rattle.history.proofs.Accepts.{start-number, session-number}
 use Rattle.worked.specs.Worked.{CanStart, returns, Holds}
 
-pub start-returns : (cal : List ℕ) (day c : ℕ) → CanStart cal day → number_at (rules cal) (start day c) empty_register ≡ cause (not (close_taken c)) 21
+pub start-returns : (cal : List ℕ) (day c : ℕ) → CanStart cal day → number_at (rules cal) (Start day c) empty_register ≡ cause (not (close_taken c)) 21
 start-returns cal day c s = start-number cal s.passes day c s.in_calendar s.on-session s.first-month
 
 -- so a line that holds of its close holds

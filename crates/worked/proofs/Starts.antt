@@ -18,7 +18,7 @@ use Rattle.calendar.proofs.LiveLaws.{quarter_is, tier_n, tier_m, tier_f, live_ti
 use Rattle.grid.specs.Grid.{grid_of, required_low, required_high, close_taken}
 use Rattle.rules.specs.Rulebook as Rulebook
 use Rattle.rules.specs.Rulebook.{first_at, tier_at, rules, expiry_at}
-use Rattle.calls.specs.Calls.{start}
+use Rattle.calls.specs.declared.Call.TheVariants.{Start}
 use Rattle.layout.specs.Rows.{Entry, new_entry, Row, ladder, rows_of, prices_of}
 use Rattle.layout.specs.Register.{Body, empty, running, listed}
 use Rattle.layout.specs.Bytes.{rows_from, body_of, moment_of}
@@ -103,21 +103,21 @@ module _ (cal : List ℕ) (day c : ℕ) where
 
   -- ---- at the bytes, wherever a start can be
   module _ (can : CanStart cal day) (ok : close_taken c ≡ true) where
-    pub start-taken : number_at (rules cal) (start day c) empty_register ≡ 0
+    pub start-taken : number_at (rules cal) (Start day c) empty_register ≡ 0
     unfolding cause
     start-taken = start-returns cal day c can ∙ rw ok
 
     abbrev bs : List ℕ
-    bs = after_at (rules cal) (start day c) empty_register
+    bs = after_at (rules cal) (Start day c) empty_register
 
     pub start-written : Written cal bs (running (start_body (rules cal) ((rules cal).begin day) c))
     unfolding accepted rules
-    start-written = written_after cal empty_register empty (empty-written cal) (start day c) start-taken
+    start-written = written_after cal empty_register empty (empty-written cal) (Start day c) start-taken
 
     pub start_read : rows_read bs ≡ begun cal day c
     start_read = ap (λ (b : Body). b.rows) (written_body cal bs (start_body (rules cal) ((rules cal).begin day) c) start-written)
 
-    start-answer : listed_at cal (start day c) empty_register
+    start-answer : listed_at cal (Start day c) empty_register
         ≡ record { number = 0; added = sizes (start_prices c) six; removed = 0; rows = sizes (start_prices c) six }
     unfolding listed_at accepted rows_held removed count rules
     start-answer =

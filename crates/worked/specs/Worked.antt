@@ -11,7 +11,8 @@ use Rattle.grid.specs.Grid.{grid_of, nearest, required_low, required_high}
 use Rattle.names.specs.Names.{name_of}
 use Rattle.rules.specs.Rules.{Rules}
 use Rattle.rules.specs.Rulebook.{rules}
-use Rattle.calls.specs.Calls.{Call, start, session, announce}
+use Rattle.calls.specs.declared.Call.{Call}
+use Rattle.calls.specs.declared.Call.TheVariants.{Start, Session, Announce}
 use Rattle.layout.specs.Rows.{Row, prices_of}
 use Rattle.base.specs.Words.{at16}
 use Rattle.layout.specs.Bytes.{body_of, all_zero}
@@ -93,8 +94,8 @@ Holds (span t c lo hi) = (required_low t c ≡ lo) × (required_high t c ≡ hi)
 -- three, their number, and that each has origin 5
 Holds (starts c n m f a) = (cal : List ℕ) (day : ℕ) → CanStart cal day →
     let live : List ℕ = live_months (first_live (expiry_of cal) day) in
-    let bs : List ℕ = after_at (rules cal) (start day c) empty_register in
-    (listed_at cal (start day c) empty_register ≡ record { number = 0; added = a; removed = 0; rows = a })
+    let bs : List ℕ = after_at (rules cal) (Start day c) empty_register in
+    (listed_at cal (Start day c) empty_register ≡ record { number = 0; added = a; removed = 0; rows = a })
     × (together (take 1 live) (rows_read bs) ≡ n)
     × (together (take 2 (drop 1 live)) (rows_read bs) ≡ m)
     × (together (drop 3 live) (rows_read bs) ≡ f)
@@ -103,23 +104,23 @@ Holds (starts c n m f a) = (cal : List ℕ) (day : ℕ) → CanStart cal day →
     × (length (of_origin 5 (rows_read bs)) ≡ a)
 -- wherever a start can be, for every month of the tier: it is accepted, and the bytes after it have the month's ladder
 Holds (lists t c ladder) = (cal : List ℕ) (day m : ℕ) → CanStart cal day → LiveAs cal day m t →
-    (number_at (rules cal) (start day c) empty_register ≡ 0)
-    × Reaches (prices_of m (rows_read (after_at (rules cal) (start day c) empty_register))) ladder
+    (number_at (rules cal) (Start day c) empty_register ≡ 0)
+    × Reaches (prices_of m (rows_read (after_at (rules cal) (Start day c) empty_register))) ladder
 -- wherever a start can be, and wherever a session can be
 Holds (returns c n) =
-    ((cal : List ℕ) (day : ℕ) → CanStart cal day → number_at (rules cal) (start day c) empty_register ≡ n)
-    × ((cal bs : List ℕ) (day : ℕ) → CanMove cal bs day → number_at (rules cal) (session day c) bs ≡ n)
+    ((cal : List ℕ) (day : ℕ) → CanStart cal day → number_at (rules cal) (Start day c) empty_register ≡ n)
+    × ((cal bs : List ℕ) (day : ℕ) → CanMove cal bs day → number_at (rules cal) (Session day c) bs ≡ n)
 -- wherever a start can be and a session after it, for every month live on both days: each call is accepted, and the bytes before and
 -- after the session have the month's ladders
 Holds (relists t u c ps d old new o some) = (cal : List ℕ) (day m : ℕ) → CanStart cal day →
     let later : ℕ = next_session cal day in
     first_live (expiry_of cal) later ≤ 1190 → LiveAs cal day m t → LiveAs cal later m u →
     let R : Rules = rules cal in
-    let calls : List Call = start day c ∷ map (announce m) ps in
+    let calls : List Call = Start day c ∷ map (Announce m) ps in
     let before : List ℕ = final_at R calls empty_register in
-    let after : List ℕ = after_at R (session later d) before in
+    let after : List ℕ = after_at R (Session later d) before in
     (all_zero (numbers_at R calls empty_register) ≡ true)
-    × (number_at R (session later d) before ≡ 0)
+    × (number_at R (Session later d) before ≡ 0)
     × Reaches (prices_of m (rows_read before)) old
     × Reaches (prices_of m (rows_read after)) new
     × Reaches (prices_of m (of_origin o (rows_read after))) some

@@ -1,9 +1,9 @@
--- `base::word` meets its contract: a byte is below 256, so that the sum fits.
+-- `base::word` meets its contract.
 -- Assumes nothing.
+use Rattle.std.proofs.Common.{add-one, arith}
 use Rattle.base.specs.Words.{at16}
-use Rattle.std.proofs.Common.{add-one}
 use Rattle.base.proofs.word.Goals as goal
 
 pub returns : goal.returns
 unfolding at16
-returns c = rw (← add-one c.args.at)
+returns c = rw (c.from_le_bytes.ensures, ← add-one c.args.at) (omega arith)

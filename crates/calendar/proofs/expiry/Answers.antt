@@ -12,14 +12,10 @@ unfolding expiry_of
 loop-day-init c = ap (last_up_to (session _)) (sym c.third_friday-day.ensures)
 
 pub returns-then-has_session : goal.returns-then-has_session
-returns-then-has_session c =
-    let l = c.before.before.before.loop-day in
-    sym (l.invariant ∙ last_hit _ _ (sym c.before.has_session.ensures ∙ c.if-has_session.true))
+returns-then-has_session c = sym (c.loop-day.invariant ∙ last_hit _ _ (sym c.has_session.ensures ∙ c.if-has_session.true))
 
 pub loop-day-preserved : goal.loop-day-preserved
-loop-day-preserved c =
-    let l = c.before.before.before.loop-day in
-    l.invariant ∙ last_miss _ _ (omega arith) (sym c.before.has_session.ensures ∙ c.if-has_session.false)
+loop-day-preserved c = c.loop-day.invariant ∙ last_miss _ _ c.loop-day-test.true (sym c.has_session.ensures ∙ c.if-has_session.false)
 
 pub returns : goal.returns
-returns c = sym (c.before.loop-day.invariant ∙ last_end _ _ (omega arith))
+returns c = omega (arith, c.loop-day.invariant, last_end (session c.args.calendar.now) c.loop-day.day (omega arith))

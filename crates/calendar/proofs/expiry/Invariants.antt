@@ -7,6 +7,3 @@ use Rattle.calendar.proofs.expiry.Given as goal
 
 abbrev pub invariant-loop-day : goal.invariant-loop-day
 invariant-loop-day l = expiry_of l.calendar l.month ≡ last_up_to (session l.calendar) l.day
-
-abbrev pub decreases-loop-day : goal.decreases-loop-day
-decreases-loop-day l = l.day

@@ -1,14 +1,13 @@
 -- `calendar::has_session` meets its contract: a shift is a division by the weight.
 -- Assumes nothing.
-use mathlib.Core.Path.{sym}
-use borrow.Author.Rules.{rules}
+use Rattle.std.proofs.Common.{sym}
 use Rattle.calendar.specs.Calendar.{session}
 use Rattle.calendar.proofs.CalendarLaws.{no-session}
 use Rattle.calendar.proofs.has_session.Goals as goal
 
-pub returns-then-at-calendar : goal.returns-then-at-calendar
+pub returns-in-Some : goal.returns-in-Some
 unfolding session
-returns-then-at-calendar c = search rules
+returns-in-Some c = rw (c.in-Some.ensures.lookup.3.1 0)
 
-pub returns-else-at-calendar : goal.returns-else-at-calendar
-returns-else-at-calendar c = sym (no-session _ _ c.if-at-calendar.false)
+pub returns-in-None : goal.returns-in-None
+returns-in-None c = sym (no-session c.args.calendar.now c.args.day c.in-None.ensures.lookup.3)

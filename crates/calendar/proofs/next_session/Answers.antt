@@ -3,22 +3,19 @@
 use mathlib.Core.Path.{refl, sym, ◌∙◌}
 use native.Mathlib.Omega.{arith}
 use Rattle.base.proofs.SearchLaws.{first_end, first_hit, first_miss}
-use Rattle.calendar.specs.Calendar.{next_session}
+use Rattle.dates.specs.Months.{day_count}
+use Rattle.calendar.specs.Calendar.{session, next_session}
 use Rattle.calendar.proofs.next_session.Goals as goal
 
 pub loop-next-init : goal.loop-next-init
 unfolding next_session
-loop-next-init c = (omega arith, refl)
+loop-next-init c = refl
 
 pub returns-then-has_session : goal.returns-then-has_session
-returns-then-has_session c =
-    let l = c.before.before.before.loop-next in
-    sym (l.invariant.1 ∙ first_hit _ _ _ (omega arith) (sym c.before.has_session.ensures ∙ c.if-has_session.true))
+returns-then-has_session c = sym (c.loop-next.invariant ∙ first_hit _ _ _ c.loop-next-test.true (sym c.has_session.ensures ∙ c.if-has_session.true))
 
 pub loop-next-preserved : goal.loop-next-preserved
-loop-next-preserved c =
-    let l = c.before.before.before.loop-next in
-    (omega arith, l.invariant.1 ∙ first_miss _ _ _ (omega arith) (sym c.before.has_session.ensures ∙ c.if-has_session.false))
+loop-next-preserved c = c.loop-next.invariant ∙ first_miss _ _ _ c.loop-next-test.true (sym c.has_session.ensures ∙ c.if-has_session.false)
 
 pub returns : goal.returns
-returns c = sym (c.before.loop-next.invariant.1 ∙ first_end _ _ _ (omega arith))
+returns c = omega (arith, c.loop-next.invariant, first_end (session c.args.calendar.now) c.loop-next.next day_count (omega arith))

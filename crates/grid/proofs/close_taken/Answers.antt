@@ -1,14 +1,13 @@
--- `grid::close_taken` meets its contract: the two tests one after the other.
+-- `grid::close_taken` meets its contract.
 -- Assumes nothing.
-use borrow.Author.Tests.{le-leb, lt-leb}
+use Rattle.std.proofs.Common.{◌∙◌}
 use Rattle.base.specs.Lists.{within}
-use Rattle.grid.specs.Grid.{close_taken}
+use Rattle.base.proofs.Tests.{order_le}
+use Rattle.grid.specs.Grid.{lowest_close, highest_close, close_taken}
 use Rattle.grid.proofs.close_taken.Goals as goal
 
-pub returns-then-close-ge-LOWEST_CLOSE : goal.returns-then-close-ge-LOWEST_CLOSE
+pub returns : goal.returns
 unfolding close_taken within
-returns-then-close-ge-LOWEST_CLOSE c = rw (le-leb _ _ c.if-close-ge-LOWEST_CLOSE.true)
-
-pub returns-else-close-ge-LOWEST_CLOSE : goal.returns-else-close-ge-LOWEST_CLOSE
-unfolding close_taken within
-returns-else-close-ge-LOWEST_CLOSE c = rw (lt-leb _ _ c.if-close-ge-LOWEST_CLOSE.false)
+returns c =
+    c.contains.ensures.value
+    ∙ rw (c.new.ensures.start, c.new.ensures.end, c.new.ensures.exhausted, order_le lowest_close c.args.close, order_le c.args.close highest_close)

@@ -1,8 +1,6 @@
 -- `grid::nearest_number` meets its contract: in each band the steps from the band's beginning give the number.
 -- Assumes nothing.
-use mathlib.Core.Path.{◌≡◌}
-use Prim.Native.Nat.{ℕ, ◌≤◌}
-use native.Mathlib.Omega.{arith}
+use Rattle.std.proofs.Common.{◌≡◌, ℕ, ◌≤◌, arith}
 use Rattle.base.specs.declared.Tier.{Tier}
 use Rattle.grid.specs.Numbers.{stride}
 use Rattle.grid.proofs.Grids.{stride_pos, stride_le}
@@ -16,26 +14,25 @@ strides t s e = rw e (stride_pos t, stride_le t)
 pub rounded-requires : goal.rounded-requires
 rounded-requires c = omega (arith, strides c.args.tier c.stride_of-stride.result c.stride_of-stride.ensures)
 
-pub rounded-requires-then-close-lt100000 : goal.rounded-requires-then-close-lt100000
-rounded-requires-then-close-lt100000 c = omega (arith, strides c.args.tier c.stride_of-stride.result c.stride_of-stride.ensures)
+pub rounded-requires-in-48000-to-99999 : goal.rounded-requires-in-48000-to-99999
+rounded-requires-in-48000-to-99999 c = omega (arith, strides c.args.tier c.stride_of-stride.result c.stride_of-stride.ensures)
 
-pub rounded-requires-else-close-lt100000 : goal.rounded-requires-else-close-lt100000
-rounded-requires-else-close-lt100000 c = omega (arith, strides c.args.tier c.stride_of-stride.result c.stride_of-stride.ensures)
+pub rounded-requires-in_default : goal.rounded-requires-in_default
+rounded-requires-in_default c = omega (arith, strides c.args.tier c.stride_of-stride.result c.stride_of-stride.ensures)
 
-pub returns-then-close-lt48000 : goal.returns-then-close-lt48000
-returns-then-close-lt48000 c =
-    let a = c.before.before.before.args in
-    let e = c.before.before.stride_of-stride.ensures in
-    rw e (nearest-low a.tier a.close c.rounded.result (omega arith) (omega arith) (rw e at c.rounded.ensures))
+pub returns-in-0-to-47999 : goal.returns-in-0-to-47999
+returns-in-0-to-47999 c =
+    let e = c.stride_of-stride.ensures in
+    rw e (nearest-low c.args.tier c.args.close.hundredths c.rounded.result (omega arith) (omega arith) (rw e at c.rounded.ensures))
 
-pub returns-then-close-lt100000 : goal.returns-then-close-lt100000
-returns-then-close-lt100000 c =
-    let a = c.before.before.before.before.args in
-    let e = c.before.before.before.stride_of-stride.ensures in
-    rw e (nearest_mid a.tier a.close c.rounded-then-close-lt100000.result (omega arith) (omega arith) (rw e at c.rounded-then-close-lt100000.ensures))
+pub returns-in-48000-to-99999 : goal.returns-in-48000-to-99999
+returns-in-48000-to-99999 c =
+    let e = c.stride_of-stride.ensures in
+    let r = c.rounded-in-48000-to-99999 in
+    rw e (nearest_mid c.args.tier c.args.close.hundredths r.result (omega arith) (omega arith) (rw e at r.ensures))
 
-pub returns-else-close-lt100000 : goal.returns-else-close-lt100000
-returns-else-close-lt100000 c =
-    let a = c.before.before.before.before.args in
-    let e = c.before.before.before.stride_of-stride.ensures in
-    rw e (nearest-high a.tier a.close c.rounded-else-close-lt100000.result (omega arith) (omega arith) (rw e at c.rounded-else-close-lt100000.ensures))
+pub returns-in_default : goal.returns-in_default
+returns-in_default c =
+    let e = c.stride_of-stride.ensures in
+    let r = c.rounded-in_default in
+    rw e (nearest-high c.args.tier c.args.close.hundredths r.result (omega arith) (omega arith) (rw e at r.ensures))

@@ -10,4 +10,4 @@ pub returns : goal.returns
 unfolding row_bytes two
 returns c =
     let a = c.args in
-    sets-eq (row_bytes a.month a.price a.first a.origin) a.part.now 0 (omega arith)
+    rw (c.put_word-3.ensures, c.put_word-2.ensures, c.put_word.ensures) (sets-eq (row_bytes a.month a.price a.stretch.now.first a.stretch.now.origin) a.part.now 0 (omega arith))

@@ -1,92 +1,88 @@
 -- `listing::session` meets its contract: each return is one of the ways in which a session ends.
 -- Assumes nothing.
-use mathlib.Core.Path.{◌≡◌, refl, sym, ◌∙◌}
+use mathlib.Core.Path.{◌≡◌, refl, sym}
 use mathlib.Core.List.{List}
 use Prim.Native.Nat.{ℕ}
 use native.Mathlib.Omega.{arith}
+use Rattle.std.proofs.lemmas.Result.{err_from_is_err_and}
+use Rattle.base.specs.declared.causes.Cause.TheVariants.{Empty as EmptyCause}
 use Rattle.calendar.specs.Calendar.{Passes, next_session}
 use Rattle.rules.specs.Rulebook.{moved, rules}
-use Rattle.layout.specs.Register.{running}
+use Rattle.layout.specs.Register.{empty, running}
 use Rattle.layout.specs.Bytes.{moment_of, body_of}
-use Rattle.calls.specs.Calls.{Call}
+use Rattle.layout.specs.Opening.{Reads}
+use Rattle.calls.specs.declared.Call.{Call}
+use Rattle.calls.specs.declared.Call.TheVariants.{Session}
 use Rattle.calls.specs.Listing.{number, accepted}
 use Rattle.calls.proofs.AnswerLaws.{refused-listed, own-refused, accepted-listed}
+use Rattle.layout.proofs.Running.{runs}
+use Rattle.register.specs.Check.{Runs}
 use Rattle.register.proofs.Well.{run-day}
-use Rattle.register.proofs.Opens.{opening-refused, opening_goes, standing-refused, standing_runs}
 use Rattle.relisting.specs.Writing.{Taken}
 use Rattle.listing.proofs.Causes.{session-taken}
 use Rattle.relisting.proofs.Starts.{day-in}
+use Rattle.listing.proofs.session.Goals.{In-Running}
 use Rattle.listing.proofs.session.Goals as goal
 
--- a session with no cause against it is taken
-taken : (cal bs : List ℕ) (day close : ℕ) {own : ℕ} → Passes cal → own ≡ number (rules cal) (Call.session day close) (running (body_of bs)) → own ≡ 0
+-- a register that runs
+opened : (c : In-Running) → Runs c.args.calendar.now c.args.register.now c.in-Running.spans
+opened c = rw c.in-Running.is at c.in_ok-spans.ensures
+
+-- and a session with no cause against it, which is taken
+taken : (cal bs : List ℕ) (day close : ℕ) → Passes cal → 0 ≡ number (rules cal) (Session day close) (running (body_of bs))
     → Taken cal (moved (moment_of bs) day) close × (day ≡ next_session cal (moment_of bs).day)
 unfolding body_of
-taken cal bs day close p e z = session-taken cal day close (body_of bs) p (sym e ∙ z)
+taken cal bs day close p e = session-taken cal day close (body_of bs) p (sym e)
 
-pub returns-then-opening-ne0 : goal.returns-then-opening-ne0
+pub returns-in_err-spans : goal.returns-in_err-spans
+returns-in_err-spans c =
+    let p = err_from_is_err_and c.from_residual.result c.from_residual.ensures.1 in
+    let x = refused-listed _ _ (Session c.args.day c.args.close) (c.in_err-spans.ensures _) in
+    record { value = rw (p.1, p.2) x.0; register_after = x.1 }
+
+pub returns-in_default : goal.returns-in_default
 unfolding number
-returns-then-opening-ne0 c =
+returns-in_default c =
     let cal = c.args.calendar.now in
     let bs = c.args.register.now in
-    let call : Call = Call.session c.args.day c.args.close in
-    let x = refused-listed cal bs call (opening-refused cal bs c.opening-opening.result c.opening-opening.ensures (number (rules cal) call) c.if-opening-ne0.true (λ q. refl)) in
-    record { value = c.refused.ensures ∙ x.0; register_after = x.1 }
+    let call : Call = Session c.args.day c.args.close in
+    let r : Reads cal bs empty = rw c.in_default.is at c.in_ok-spans.ensures in
+    let x = refused-listed cal bs call (own-refused cal bs call empty r EmptyCause refl) in
+    record { value = x.0; register_after = x.1 }
 
-pub standing-spans-requires : goal.standing-spans-requires
-standing-spans-requires c =
-    opening_goes c.args.calendar.now c.args.register.now c.opening-opening.result c.opening-opening.ensures c.if-opening-ne0.false
+pub session_refusal-requires : goal.session_refusal-requires
+session_refusal-requires c =
+    let o = opened (goal.at.session_refusal-requires c).In-Running in
+    (o.reads.passes, o.reads.size, run-day _ _ o.reads.size (runs _ _ o.well))
 
-pub returns-then-span-eq0 : goal.returns-then-span-eq0
-returns-then-span-eq0 c =
-    let cal = c.args.calendar.now in
-    let bs = c.args.register.now in
-    let call : Call = Call.session c.args.day c.args.close in
-    let x = refused-listed cal bs call (standing-refused cal bs c.opening-opening.result c.opening-opening.ensures c.if-opening-ne0.false c.standing-spans.result c.standing-spans.ensures c.if-span-eq0.true _) in
-    record { value = c.refused-then-span-eq0.ensures ∙ x.0; register_after = x.1 }
-
-pub session_cause-number-requires : goal.session_cause-number-requires
-session_cause-number-requires c =
-    let cal = c.args.calendar.now in
-    let bs = c.args.register.now in
-    let r = standing_runs cal bs c.opening-opening.result c.opening-opening.ensures c.if-opening-ne0.false c.standing-spans.result c.standing-spans.ensures c.if-span-eq0.false in
-    (r.reads.passes, r.reads.size, run-day cal bs r.reads.size r.run)
-
-pub returns-then-number-ne0 : goal.returns-then-number-ne0
-returns-then-number-ne0 c =
-    let cal = c.args.calendar.now in
-    let bs = c.args.register.now in
-    let call : Call = Call.session c.args.day c.args.close in
-    let r = standing_runs cal bs c.opening-opening.result c.opening-opening.ensures c.if-opening-ne0.false c.standing-spans.result c.standing-spans.ensures c.if-span-eq0.false in
-    let x = refused-listed cal bs call (own-refused cal bs call (running (body_of bs)) r.reads c.session_cause-number.result c.session_cause-number.ensures c.if-number-ne0.true) in
-    record { value = c.refused-then-number-ne0.ensures ∙ x.0; register_after = x.1 }
+pub returns-in_err-session_refusal : goal.returns-in_err-session_refusal
+returns-in_err-session_refusal c =
+    let f = c.from_residual-in_err-session_refusal in
+    let p = err_from_is_err_and f.result f.ensures.1 in
+    let o = opened (goal.at.returns-in_err-session_refusal c).In-Running in
+    let call : Call = Session c.args.day c.args.close in
+    let x = refused-listed _ _ call (own-refused _ _ call _ o.reads _ c.in_err-session_refusal.ensures) in
+    record { value = rw (p.1, p.2) x.0; register_after = x.1 }
 
 pub overflow_cast-day : goal.overflow_cast-day
 unfolding moved
 overflow_cast-day c =
     let cal = c.args.calendar.now in
     let bs = c.args.register.now in
-    let r = standing_runs cal bs c.opening-opening.result c.opening-opening.ensures c.if-opening-ne0.false c.standing-spans.result c.standing-spans.ensures c.if-span-eq0.false in
-    let t = taken cal bs c.args.day c.args.close r.reads.passes c.session_cause-number.ensures c.if-number-ne0.false in
+    let o = opened (goal.at.overflow_cast-day c).In-Running in
+    let t = taken cal bs c.args.day c.args.close o.reads.passes c.in_ok-session_refusal.ensures in
     omega (arith, day-in cal (moved (moment_of bs) c.args.day) c.args.close t.0)
 
 pub list_session-requires : goal.list_session-requires
 list_session-requires c =
-    let cal = c.args.calendar.now in
-    let bs = c.args.register.now in
-    let r = standing_runs cal bs c.opening-opening.result c.opening-opening.ensures c.if-opening-ne0.false c.standing-spans.result c.standing-spans.ensures c.if-span-eq0.false in
-    record {
-      register_len = (r.reads.size, r.well, c.standing-spans.ensures);
-      taken = taken cal bs c.args.day c.args.close r.reads.passes c.session_cause-number.ensures c.if-number-ne0.false;
-    }
+    let o = opened (goal.at.list_session-requires c).In-Running in
+    record { runs = o; taken = taken _ _ _ _ o.reads.passes c.in_ok-session_refusal.ensures }
 
 pub returns : goal.returns
 unfolding accepted rules body_of
 returns c =
-    let cal = c.args.calendar.now in
-    let bs = c.args.register.now in
-    let call : Call = Call.session c.args.day c.args.close in
-    let r = standing_runs cal bs c.opening-opening.result c.opening-opening.ensures c.if-opening-ne0.false c.standing-spans.result c.standing-spans.ensures c.if-span-eq0.false in
-    let x = accepted-listed cal bs call (running (body_of bs)) r.reads (sym c.session_cause-number.ensures ∙ c.if-number-ne0.false)
-    c.list_session.result c.list_session.new.register c.list_session.ensures.value c.list_session.ensures.register_after in
+    let o = opened (goal.at.returns c).In-Running in
+    let k = c.list_session in
+    let x = accepted-listed _ _ (Session c.args.day c.args.close) _ o.reads (sym c.in_ok-session_refusal.ensures)
+    k.result k.new.register k.ensures.value k.ensures.register_after in
     record { value = x.0; register_after = x.1 }

@@ -1,100 +1,101 @@
 -- `loader::write` meets its contract: the causes are tried downwards, then the file is written.
 -- Assumes nothing.
-use mathlib.Core.Path.{◌≡◌, refl, sym, ap, ◌∙◌}
+use mathlib.Core.Path.{◌≡◌, refl}
 use mathlib.Core.List.{List}
 use Prim.Native.Nat.{ℕ, ◌+◌, ◌*◌, ◌≤◌}
 use native.Mathlib.Omega.{arith}
 use lib.ListN.{length}
+use Rattle.std.proofs.lemmas.Result.{err_from_is_err_and}
 use Rattle.base.specs.Words.{at16}
+use Rattle.base.specs.declared.causes.Cause.TheVariants.{Empty as EmptyCause}
 use Rattle.layout.specs.Bytes.{body_of, rows_from}
-use Rattle.register.proofs.Opens.{RunsWith, opening-refused, opening_goes, standing-refused, standing_runs}
-use Rattle.naming.specs.DayFile.{new_rows, day_file}
-use Rattle.naming.specs.Parts.{rows_in}
+use Rattle.layout.specs.Register.{empty}
+use Rattle.layout.specs.Opening.{Reads}
+use Rattle.layout.proofs.OpeningLaws.{refused_own}
+use Rattle.layout.proofs.Running.{runs}
+use Rattle.register.specs.Check.{Runs}
+use Rattle.naming.specs.DayFile.{day_file}
 use Rattle.loader.specs.Loader.{file_cause}
-use Rattle.loader.proofs.Listed.{file-length, rows_inside, first-month}
-use Rattle.loader.proofs.Answers.{refused_file, short_file, written_file}
+use Rattle.loader.proofs.Listed.{rows_inside, first-month}
+use Rattle.loader.proofs.Answers.{refused_file, short_file, size_is, parts_size, written_file}
+use Rattle.loader.proofs.write.Goals.{In-Running}
 use Rattle.loader.proofs.write.Goals as goal
 
--- the rows of a register that runs lie inside it
-inside : (cal bs : List ℕ) {spans : List (List ℕ)} → RunsWith cal bs spans → (rows : ℕ) → rows ≡ at16 bs 4 → rows_from + 8 * rows ≤ length bs
-inside cal bs r rows e = omega (arith, e, rows_inside cal bs r.reads.size r.run)
+-- a register that runs
+opened : (c : In-Running) → Runs c.args.calendar.now c.args.register.now c.in-Running.field-0
+opened c = rw c.in-Running.is at c.in_ok-open.ensures
 
--- the file's length is counted
-size_is : (cal bs : List ℕ) {spans : List (List ℕ)} → RunsWith cal bs spans → (day rows new : ℕ) → day ≡ at16 bs 2 → rows ≡ at16 bs 4
-    → new ≡ length (new_rows day (rows_in bs rows_from rows)) → 5 + 30 * new ≡ length (day_file (body_of bs))
-size_is cal bs r day rows new d n e =
-    ap (λ (n : ℕ). 5 + 30 * n) (rw (d, n) at e) ∙ sym (file-length cal bs r.reads.size r.run)
+-- its rows lie inside it
+inside : (cal bs : List ℕ) {spans : List (List ℕ)} → Runs cal bs spans → (rows : ℕ) → rows ≡ at16 bs 4 → rows_from + 8 * rows ≤ length bs
+inside cal bs o rows e = omega (arith, e, rows_inside cal bs o.reads.size (runs cal bs o.well))
 
-pub returns-then-opens-ne0 : goal.returns-then-opens-ne0
+pub returns-in_err-open : goal.returns-in_err-open
+returns-in_err-open c =
+    let p = err_from_is_err_and c.from_residual.result c.from_residual.ensures.1 in
+    let a = refused_file _ _ c.args.file.now (c.in_err-open.ensures _) in
+    record { value = rw (p.1, p.2) a.0; file_after = a.1 }
+
+pub returns-in_default : goal.returns-in_default
 unfolding file_cause
-returns-then-opens-ne0 c =
+returns-in_default c =
     let cal = c.args.calendar.now in
     let bs = c.args.register.now in
     let out = c.args.file.now in
-    let a = refused_file cal bs out _ _ (opening-refused cal bs c.opening-opens.result c.opening-opens.ensures (file_cause out) c.if-opens-ne0.true (λ q. refl)) in
-    record { value = c.refused.ensures ∙ a.0; file_after = a.1 }
-
-pub standing-spans-requires : goal.standing-spans-requires
-standing-spans-requires c = opening_goes c.args.calendar.now c.args.register.now c.opening-opens.result c.opening-opens.ensures c.if-opens-ne0.false
-
-pub returns-then-span-eq0 : goal.returns-then-span-eq0
-returns-then-span-eq0 c =
-    let cal = c.args.calendar.now in
-    let bs = c.args.register.now in
-    let a = refused_file cal bs c.args.file.now _ _ (standing-refused cal bs c.opening-opens.result c.opening-opens.ensures c.if-opens-ne0.false c.standing-spans.result c.standing-spans.ensures c.if-span-eq0.true _) in
-    record { value = c.refused-then-span-eq0.ensures ∙ a.0; file_after = a.1 }
+    let r : Reads cal bs empty = rw c.in_default.is at c.in_ok-open.ensures in
+    let a = refused_file cal bs out (refused_own cal bs empty r (file_cause out) EmptyCause refl (λ z. omega arith)) in
+    record { value = a.0; file_after = a.1 }
 
 pub word-day-requires : goal.word-day-requires
 word-day-requires c =
-    let r = standing_runs c.args.calendar.now c.args.register.now c.opening-opens.result c.opening-opens.ensures c.if-opens-ne0.false c.standing-spans.result c.standing-spans.ensures c.if-span-eq0.false in
+    let r = opened (goal.at.word-day-requires c).In-Running in
     omega (arith, r.reads.size)
 
-pub word-rows-requires : goal.word-rows-requires
-word-rows-requires c =
-    let r = standing_runs c.args.calendar.now c.args.register.now c.opening-opens.result c.opening-opens.ensures c.if-opens-ne0.false c.standing-spans.result c.standing-spans.ensures c.if-span-eq0.false in
+pub word-requires : goal.word-requires
+word-requires c =
+    let r = opened (goal.at.word-requires c).In-Running in
     omega (arith, r.reads.size)
 
-pub count_new-requires : goal.count_new-requires
-count_new-requires c =
-    let r = standing_runs c.args.calendar.now c.args.register.now c.opening-opens.result c.opening-opens.ensures c.if-opens-ne0.false c.standing-spans.result c.standing-spans.ensures c.if-span-eq0.false in
-    inside _ _ r c.word-rows.result c.word-rows.ensures
+pub rows-rows-requires : goal.rows-rows-requires
+rows-rows-requires c =
+    let r = opened (goal.at.rows-rows-requires c).In-Running in
+    inside _ _ r c.word.result c.word.ensures
 
 pub returns-then-file-length : goal.returns-then-file-length
 returns-then-file-length c =
-    let r = standing_runs c.args.calendar.now c.args.register.now c.opening-opens.result c.opening-opens.ensures c.if-opens-ne0.false c.standing-spans.result c.standing-spans.ensures c.if-span-eq0.false in
+    let r = opened (goal.at.returns-then-file-length c).In-Running in
     let size : 5 + 30 * c.count_new.result ≡ length (day_file (body_of c.args.register.now)) =
-    size_is c.args.calendar.now c.args.register.now r c.word-day.result c.word-rows.result c.count_new.result c.word-day.ensures c.word-rows.ensures c.count_new.ensures.0 in
+    size_is c.args.calendar.now c.args.register.now c.args.file.now r.reads (runs _ _ r.well) c.word-day.ensures c.word.ensures c.rows-rows.ensures.bytes c.count_new.ensures.new in
     let a = short_file c.args.calendar.now c.args.register.now c.args.file.now r.reads (omega (arith, size, c.if-file-length.true)) in
-    record { value = c.refused-then-file-length.ensures ∙ a.0; file_after = a.1 }
+    record { value = a.0; file_after = a.1 }
 
 pub word-first-requires : goal.word-first-requires
 word-first-requires c =
-    let r = standing_runs c.args.calendar.now c.args.register.now c.opening-opens.result c.opening-opens.ensures c.if-opens-ne0.false c.standing-spans.result c.standing-spans.ensures c.if-span-eq0.false in
+    let r = opened (goal.at.word-first-requires c).In-Running in
     omega (arith, r.reads.size)
 
 pub overflow_mul-january : goal.overflow_mul-january
 overflow_mul-january c =
-    let r = standing_runs c.args.calendar.now c.args.register.now c.opening-opens.result c.opening-opens.ensures c.if-opens-ne0.false c.standing-spans.result c.standing-spans.ensures c.if-span-eq0.false in
-    omega (arith, c.word-first.ensures, first-month c.args.calendar.now c.args.register.now r.reads.size r.run)
+    let r = opened (goal.at.overflow_mul-january c).In-Running in
+    omega (arith, c.word-first.ensures, first-month c.args.calendar.now c.args.register.now r.reads.size (runs _ _ r.well))
 
-pub rows_before-split-requires : goal.rows_before-split-requires
-rows_before-split-requires c =
-    let r = standing_runs c.args.calendar.now c.args.register.now c.opening-opens.result c.opening-opens.ensures c.if-opens-ne0.false c.standing-spans.result c.standing-spans.ensures c.if-span-eq0.false in
-    inside _ _ r c.word-rows.result c.word-rows.ensures
+pub split_at-requires : goal.split_at-requires
+split_at-requires c = c.rows_before.ensures.most
 
 pub put_file-requires : goal.put_file-requires
 put_file-requires c =
-    let r = standing_runs c.args.calendar.now c.args.register.now c.opening-opens.result c.opening-opens.ensures c.if-opens-ne0.false c.standing-spans.result c.standing-spans.ensures c.if-span-eq0.false in
-    (inside _ _ r c.word-rows.result c.word-rows.ensures, c.rows_before-split.ensures.1, omega (arith, c.count_new.ensures.0, c.if-file-length.false))
+    let r = opened (goal.at.put_file-requires c).In-Running in
+    let n = parts_size c.args.calendar.now c.args.register.now c.args.file.now r.reads (runs _ _ r.well) c.word-day.ensures c.word.ensures c.rows-rows.ensures.bytes c.word-first.ensures c.rows_before.ensures.before c.split_at.ensures.front c.split_at.ensures.back in
+    omega (arith, n, c.count_new.ensures.new, c.if-file-length.false)
 
 pub returns : goal.returns
 returns c =
+    let cal = c.args.calendar.now in
     let bs = c.args.register.now in
-    let r = standing_runs c.args.calendar.now c.args.register.now c.opening-opens.result c.opening-opens.ensures c.if-opens-ne0.false c.standing-spans.result c.standing-spans.ensures c.if-span-eq0.false in
-    let size : 5 + 30 * c.count_new.result ≡ length (day_file (body_of c.args.register.now)) =
-    size_is c.args.calendar.now c.args.register.now r c.word-day.result c.word-rows.result c.count_new.result c.word-day.ensures c.word-rows.ensures c.count_new.ensures.0 in
-    let a =
-    written_file c.args.calendar.now bs c.args.file.now r.reads r.run c.word-day.result c.word-rows.result c.rows_before-split.result c.word-day.ensures c.word-rows.ensures
-    (rw (c.word-first.ensures, c.word-rows.ensures) at c.rows_before-split.ensures.0)
-    (5 + 30 * c.count_new.result) c.put_file.new.file size c.if-file-length.false (rw (← c.count_new.ensures.0) at c.put_file.ensures) in
+    let out = c.args.file.now in
+    let r = opened (goal.at.returns c).In-Running in
+    let rows = c.rows-rows.ensures.bytes in
+    let size = size_is cal bs out r.reads (runs _ _ r.well) c.word-day.ensures c.word.ensures rows c.count_new.ensures.new in
+    let n = parts_size cal bs out r.reads (runs _ _ r.well) c.word-day.ensures c.word.ensures rows c.word-first.ensures c.rows_before.ensures.before c.split_at.ensures.front c.split_at.ensures.back in
+    let a = written_file cal bs out r.reads (runs _ _ r.well) c.word-day.ensures c.word.ensures rows c.word-first.ensures c.rows_before.ensures.before c.split_at.ensures.front c.split_at.ensures.back
+    size c.if-file-length.false (rw (n, ← c.count_new.ensures.new) at c.put_file.ensures) in
     record { value = a.0; file_after = a.1 }

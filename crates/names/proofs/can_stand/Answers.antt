@@ -1,26 +1,22 @@
 -- `names::can_stand` meets its contract: each return rewrites with the tests that led there.
 -- Assumes nothing.
-use borrow.Author.Tests.{lt-ltb, le-ltb, eq-eqb, ne_eqb, le-leb, lt-leb}
+use Rattle.std.proofs.Common.{arith, ◌≡◌, ◌∙◌}
+use borrow.Author.Tests.{lt-ltb, le-ltb, ne_eqb}
+use Rattle.base.proofs.Tests.{order_le}
 use Rattle.base.specs.Lists.{within}
 use Rattle.names.specs.Names.{can_stand}
 use Rattle.names.proofs.can_stand.Goals as goal
 
-pub returns-then-place-lt4 : goal.returns-then-place-lt4
+pub returns-in-0-to-3 : goal.returns-in-0-to-3
 unfolding can_stand
-returns-then-place-lt4 c = rw (lt-ltb _ _ c.if-place-lt4.true)
+returns-in-0-to-3 c = rw (lt-ltb c.args.place 4 (omega arith))
 
-pub returns-then-byte-ge65 : goal.returns-then-byte-ge65
+pub returns-in-4 : goal.returns-in-4
 unfolding can_stand within
-returns-then-byte-ge65 c = rw (le-ltb _ _ c.before.before.if-place-lt4.false, eq-eqb _ _ c.before.if-place-eq4.true, le-leb _ _ c.if-byte-ge65.true)
+returns-in-4 c =
+    let four : c.args.place ≡ 4 = omega arith in
+    rw four (c.contains.ensures.value ∙ rw (c.new.ensures.start, c.new.ensures.end, c.new.ensures.exhausted, order_le 65 c.args.byte, order_le c.args.byte 88))
 
-pub returns-else-byte-ge65 : goal.returns-else-byte-ge65
+pub returns-in_default : goal.returns-in_default
 unfolding can_stand within
-returns-else-byte-ge65 c = rw (le-ltb _ _ c.before.before.if-place-lt4.false, eq-eqb _ _ c.before.if-place-eq4.true, lt-leb _ _ c.if-byte-ge65.false)
-
-pub returns-then-byte-ge48 : goal.returns-then-byte-ge48
-unfolding can_stand within
-returns-then-byte-ge48 c = rw (le-ltb _ _ c.before.before.if-place-lt4.false, ne_eqb _ _ c.before.if-place-eq4.false, le-leb _ _ c.if-byte-ge48.true)
-
-pub returns-else-byte-ge48 : goal.returns-else-byte-ge48
-unfolding can_stand within
-returns-else-byte-ge48 c = rw (le-ltb _ _ c.before.before.if-place-lt4.false, ne_eqb _ _ c.before.if-place-eq4.false, lt-leb _ _ c.if-byte-ge48.false)
+returns-in_default c = rw (le-ltb c.args.place 4 (omega arith), ne_eqb c.args.place 4 (omega arith)) c.is_ascii_digit.ensures.value

@@ -1,25 +1,18 @@
--- `names::no_series` meets its contract: each return rewrites with the tests that led there.
+-- `names::no_series` meets its contract: a type is 0 or 1.
 -- Assumes nothing.
-use mathlib.Core.Path.{ap}
+use Rattle.std.proofs.Common.{arith, ap}
 use mathlib.Core.Bool.{not}
-use native.Mathlib.Omega.{arith}
-use borrow.Author.Tests.{lt-ltb, le-ltb}
+use borrow.Author.Tests.{lt-ltb, le-ltb, le-leb}
 use Rattle.dates.specs.Months.{month_count}
+use Rattle.names.specs.Kinds.{kind_number}
 use Rattle.names.specs.Names.{no_series}
+use Rattle.names.proofs.KindLaws.{one_kind}
 use Rattle.names.proofs.no_series.Goals as goal
 
 pub returns-then-month : goal.returns-then-month
 unfolding no_series
-returns-then-month c = rw (le-ltb c.before.args.month month_count (omega arith))
+returns-then-month c = rw (le-ltb c.args.month month_count (omega arith), le-leb month_count c.args.month (omega arith))
 
-pub returns-then-kind-gt1 : goal.returns-then-kind-gt1
+pub returns-else-month : goal.returns-else-month
 unfolding no_series
-returns-then-kind-gt1 c =
-    let a = c.before.before.args in
-    rw (lt-ltb a.month month_count (omega arith), lt-ltb 1 a.kind (omega arith))
-
-pub returns : goal.returns
-unfolding no_series
-returns c =
-    let a = c.before.before.before.args in
-    rw (lt-ltb a.month month_count (omega arith), le-ltb 1 a.kind (omega arith)) (ap not c.on_grid.ensures)
+returns-else-month c = rw (lt-ltb c.args.month month_count (omega arith), one_kind c.args.kind) (ap not c.on_grid.ensures)

@@ -1,38 +1,18 @@
--- `names::put` meets its contract: eleven stores in a row are the name's bytes.
+-- `names::put` meets its contract: eleven bytes in a row are the name's.
 -- Assumes nothing.
-use mathlib.Core.Path.{◌≡◌, ap, ◌∙◌}
-use mathlib.Core.List.{List, [], ◌∷◌, ◌++◌}
+use mathlib.Core.Path.{◌≡◌, ◌∙◌}
 use Prim.Native.Nat.{ℕ, ◌+◌, ◌*◌, ◌/◌, ◌%◌}
 use native.Mathlib.Omega.{arith}
-use lib.ListN.{drop_of_length-le}
-use lib.Seq.{sets-eq}
+use Rattle.names.specs.Kinds.{kind_number}
 use Rattle.names.specs.Names.{digits, letter, name_of}
 use Rattle.names.proofs.put.Goals as goal
 
--- the bytes that are stored, and that they are the name's
-abbrev bytes : ℕ → ℕ → ℕ → List ℕ
-bytes month kind price =
-    79 ∷ 87 ∷ 50 ∷ 48
-    ∷ (65 + (12 * kind + month % 12))
-    ∷ (48 + month / 12 / 10 % 10)
-    ∷ (48 + month / 12 % 10)
-    ∷ (48 + price / 1000 % 10)
-    ∷ (48 + price / 100 % 10)
-    ∷ (48 + price / 10 % 10)
-    ∷ (48 + price % 10)
-    ∷ []
-
-stored : (month kind price : ℕ) → name_of month kind price ≡ bytes month kind price
-unfolding name_of letter digits
-stored month kind price =
-    let letter-is : 65 + 12 * kind + month % 12 ≡ 65 + (12 * kind + month % 12) = omega arith in
-    let thousands : price / 10 / 10 / 10 ≡ price / 1000 = omega arith in
-    let hundreds : price / 10 / 10 ≡ price / 100 = omega arith in
-    rw (letter-is, thousands, hundreds)
-
 pub returns : goal.returns
+unfolding name_of letter digits
 returns c =
-    let name = c.args.name.now in
-    let new = bytes c.args.month c.args.kind c.args.price in
-    rw (stored c.args.month c.args.kind c.args.price)
-    (sets-eq new name 0 (omega arith) ∙ ap (λ (rest : List ℕ). new ++ rest) (drop_of_length-le name {i = 11} (omega arith)))
+    let a = c.args in
+    let letter-is : 65 + (12 * kind_number a.kind + a.month % 12) ≡ 65 + 12 * kind_number a.kind + a.month % 12 = omega arith in
+    let thousands : a.price / 10 / 10 / 10 ≡ a.price / 1000 = omega arith in
+    let hundreds : a.price / 10 / 10 ≡ a.price / 100 = omega arith in
+    c.copy_from_slice.ensures.after
+    ∙ rw (c.number.ensures, c.digit.ensures, c.digit-2.ensures, c.digit-3.ensures, c.digit-4.ensures, c.digit-5.ensures, c.digit-6.ensures, letter-is, thousands, hundreds)

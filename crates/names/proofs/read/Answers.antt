@@ -1,35 +1,42 @@
--- `names::read` meets its contract: each return by the causes that led there.
+-- `names::read` meets its contract: each return by the causes that led there. The array that is looked at holds the name's bytes.
 -- Assumes nothing.
-use mathlib.Core.Path.{◌≡◌, sym, ◌∙◌}
-use Prim.Native.Nat.{◌≤◌, ◌<◌}
-use Rattle.base.specs.Search.{first_in}
+use Rattle.std.proofs.Common.{◌≡◌, sym, ◌∙◌, length}
+use Rattle.base.proofs.SearchLaws.{at_found, none_found}
 use Rattle.names.specs.Names.{name_length, no_series, misplaced, month_read, kind_read, price_read, read_of}
 use Rattle.names.proofs.RefusalLaws.{read_27, read_29, read_28, read_0}
 use Rattle.names.proofs.read.Goals as goal
 
-pub returns-then-name : goal.returns-then-name
+pub returns-in_default : goal.returns-in_default
 unfolding read_of
-returns-then-name c = c.refused.ensures ∙ rw (read_27 _ c.before.if-name.true)
+returns-in_default c = rw (read_27 c.args.name.now c.in_default.ensures.1)
 
-pub returns-then-place-lt-LENGTH : goal.returns-then-place-lt-LENGTH
+pub returns-in-Some : goal.returns-in-Some
 unfolding read_of
-returns-then-place-lt-LENGTH c =
-    let name = c.args.name.now in
-    let at : first_in (misplaced name) 0 name_length < name_length = rw (← c.first_misplaced-place.ensures) c.if-place-lt-LENGTH.true in
-    c.refused-then-place-lt-LENGTH.ensures ∙ rw (c.first_misplaced-place.ensures, read_29 name c.if-name.false at)
+returns-in-Some c =
+    let whole = c.in-Ok.ensures.1 in
+    let name = c.in-Ok.name.now in
+    let long : length name ≡ name_length = rw whole.same whole.long in
+    let found = at_found (misplaced name) 0 name_length c.in-Some.place c.in-Some.ensures in
+    rw (← whole.same, read_29 name long (rw found.0 found.1), found.0)
 
 pub returns-then-no_series : goal.returns-then-no_series
 unfolding read_of
 returns-then-no_series c =
-    let name = c.args.name.now in
-    let placed : name_length ≤ first_in (misplaced name) 0 name_length = rw (← c.first_misplaced-place.ensures) c.if-place-lt-LENGTH.false in
-    let tested : c.no_series.result ≡ no_series (month_read name) (kind_read name) (price_read name) = rw c.told-series.ensures at c.no_series.ensures in
-    c.refused-then-no_series.ensures ∙ rw (read_28 _ c.if-name.false placed (sym tested ∙ c.if-no_series.true))
+    let whole = c.in-Ok.ensures.1 in
+    let name = c.in-Ok.name.now in
+    let long : length name ≡ name_length = rw whole.same whole.long in
+    let placed = none_found (misplaced name) 0 name_length c.in_default-first_misplaced.ensures in
+    let told = c.told-named.ensures in
+    let tested : no_series (month_read name) (kind_read name) (price_read name) ≡ c.no_series.result = rw (← told.0, ← told.1, ← told.2) (sym c.no_series.ensures) in
+    rw (← whole.same, read_28 name long placed (tested ∙ c.if-no_series.true))
 
 pub returns : goal.returns
 unfolding read_of
 returns c =
-    let name = c.args.name.now in
-    let placed : name_length ≤ first_in (misplaced name) 0 name_length = rw (← c.first_misplaced-place.ensures) c.if-place-lt-LENGTH.false in
-    let tested : c.no_series.result ≡ no_series (month_read name) (kind_read name) (price_read name) = rw c.told-series.ensures at c.no_series.ensures in
-    c.told-series.ensures ∙ rw (read_0 _ c.if-name.false placed (sym tested ∙ c.if-no_series.false))
+    let whole = c.in-Ok.ensures.1 in
+    let name = c.in-Ok.name.now in
+    let long : length name ≡ name_length = rw whole.same whole.long in
+    let placed = none_found (misplaced name) 0 name_length c.in_default-first_misplaced.ensures in
+    let told = c.told-named.ensures in
+    let tested : no_series (month_read name) (kind_read name) (price_read name) ≡ c.no_series.result = rw (← told.0, ← told.1, ← told.2) (sym c.no_series.ensures) in
+    rw (← whole.same, read_0 name long placed (tested ∙ c.if-no_series.false), told.0, told.1, told.2)

@@ -1,32 +1,37 @@
 -- `names::write` meets its contract: each return by the causes that led there.
 -- Assumes nothing.
-use mathlib.Core.Path.{sym, ◌∙◌}
+use Rattle.std.proofs.Common.{sym, arith, ◌∙◌}
+use Rattle.std.proofs.lemmas.Result.{err_from_is_err_and}
 use Rattle.names.specs.Names.{written}
-use borrow.Author.Rules.{rules}
-use Rattle.names.proofs.RefusalLaws.{kind-below, write_27, write_28, write_0}
+use Rattle.names.proofs.RefusalLaws.{no_kind, write_27, write_28, write_0}
 use Rattle.names.proofs.write.Goals as goal
 
-pub returns-then-name : goal.returns-then-name
+pub returns-then-name-ne-LENGTH : goal.returns-then-name-ne-LENGTH
 unfolding written
-returns-then-name c =
-    let e = write_27 _ _ _ _ c.if-name.true in
+returns-then-name-ne-LENGTH c =
+    let e = write_27 c.args.month c.args.kind c.args.price c.args.name.now c.if-name-ne-LENGTH.true in
     record { value = sym e; name_after = rw e }
+
+pub returns-in_err-kind : goal.returns-in_err-kind
+unfolding written
+returns-in_err-kind c =
+    let a = c.args in
+    let p = err_from_is_err_and c.from_residual.result c.from_residual.ensures.1 in
+    let e = write_28 a.month a.kind a.price a.name.now c.if-name-ne-LENGTH.false (no_kind a.month a.kind a.price c.in_err-kind.ensures.1) in
+    record { value = rw (p.1, p.2, c.in_err-kind.ensures.0) (sym e); name_after = rw e }
 
 pub returns-then-no_series : goal.returns-then-no_series
 unfolding written
 returns-then-no_series c =
-    let n = c.before in
-    let e = write_28 _ _ _ _ n.before.if-name.false (sym n.no_series.ensures ∙ c.if-no_series.true) in
+    let a = c.args in
+    let none = rw c.in_ok-kind.ensures at (sym c.no_series.ensures ∙ c.if-no_series.true) in
+    let e = write_28 a.month a.kind a.price a.name.now c.if-name-ne-LENGTH.false none in
     record { value = sym e; name_after = rw e }
-
-pub put-requires : goal.put-requires
-put-requires c =
-    (search rules, kind-below _ _ _ (sym c.before.before.no_series.ensures ∙ c.before.if-no_series.false))
 
 pub returns : goal.returns
 unfolding written
 returns c =
-    let p = c.before.before in
-    let n = p.before.before.before in
-    let e = write_0 _ _ _ _ n.before.if-name.false (sym n.no_series.ensures ∙ p.before.before.if-no_series.false) in
-    record { value = sym e; name_after = rw e p.put.ensures }
+    let a = c.args in
+    let some = rw c.in_ok-kind.ensures at (sym c.no_series.ensures ∙ c.if-no_series.false) in
+    let e = write_0 a.month a.kind a.price a.name.now c.if-name-ne-LENGTH.false some in
+    record { value = sym e; name_after = rw e (rw c.in_ok-kind.ensures at c.put.ensures) }

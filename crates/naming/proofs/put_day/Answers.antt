@@ -1,4 +1,4 @@
--- `naming::put_day` meets its contract: five stores at the front.
+-- `naming::put_day` meets its contract: tag, length and day are stored at the front.
 -- Assumes nothing.
 use mathlib.Core.List.{[], ◌∷◌}
 use native.Mathlib.Omega.{arith}
@@ -9,4 +9,6 @@ use Rattle.naming.proofs.put_day.Goals as goal
 
 pub returns : goal.returns
 unfolding fields_bytes day_field two
-returns c = let a = c.args in sets-eq (fields_bytes (day_field a.day ∷ [])) a.part.now 0 (omega arith)
+returns c =
+    let a = c.args in
+    rw (c.put_word-2.ensures, c.put_word.ensures) (sets-eq (fields_bytes (day_field a.day ∷ [])) a.part.now 0 (omega arith))

@@ -1,25 +1,26 @@
 -- `parsing::can_stand` meets its contract: each return rewrites with the tests that led there.
 -- Assumes nothing.
-use borrow.Author.Tests.{eq-eqb, ne_eqb}
+use Rattle.std.proofs.Common.{◌≡◌, arith}
+use borrow.Author.Tests.{ne_eqb}
 use Rattle.fields.specs.Reading.{tag_stands, byte_stands}
 use Rattle.parsing.proofs.can_stand.Goals as goal
 
-pub returns-then-first : goal.returns-then-first
+pub returns-in-0 : goal.returns-in-0
 unfolding byte_stands tag_stands
-returns-then-first c = rw (eq-eqb _ _ c.before.if-place-eq0.true, c.if-first.true)
+returns-in-0 c = let zero : c.args.place ≡ 0 = omega arith in rw (zero, c.if-first.true)
 
-pub returns-then-place-eq0 : goal.returns-then-place-eq0
+pub returns-in-0-2 : goal.returns-in-0-2
 unfolding byte_stands tag_stands
-returns-then-place-eq0 c = rw (eq-eqb _ _ c.before.if-place-eq0.true, c.if-first.false)
+returns-in-0-2 c = let zero : c.args.place ≡ 0 = omega arith in rw (zero, c.if-first.false)
 
-pub returns-then-place-eq1 : goal.returns-then-place-eq1
+pub returns-in-1 : goal.returns-in-1
 unfolding byte_stands
-returns-then-place-eq1 c = rw (ne_eqb _ _ c.before.before.if-place-eq0.false, eq-eqb _ _ c.before.if-place-eq1.true, c.content_size.ensures.0)
+returns-in-1 c = let one : c.args.place ≡ 1 = omega arith in rw (one, c.content_size.ensures.0)
 
-pub returns-then-place-eq2 : goal.returns-then-place-eq2
+pub returns-in-2 : goal.returns-in-2
 unfolding byte_stands
-returns-then-place-eq2 c = rw (ne_eqb _ _ c.before.before.if-place-eq0.false, ne_eqb _ _ c.before.if-place-eq1.false, eq-eqb _ _ c.if-place-eq2.true)
+returns-in-2 c = let two : c.args.place ≡ 2 = omega arith in rw two
 
-pub returns : goal.returns
+pub returns-in_default : goal.returns-in_default
 unfolding byte_stands
-returns c = rw (ne_eqb _ _ c.before.before.before.if-place-eq0.false, ne_eqb _ _ c.before.before.if-place-eq1.false, ne_eqb _ _ c.before.if-place-eq2.false) c.content_stands.ensures
+returns-in_default c = rw (ne_eqb c.args.place 0 (omega arith), ne_eqb c.args.place 1 (omega arith), ne_eqb c.args.place 2 (omega arith)) c.content_stands.ensures

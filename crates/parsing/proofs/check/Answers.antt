@@ -1,58 +1,72 @@
 -- `parsing::check` meets its contract. The loop keeps an equation: what is told of the rest, behind so many series, is what is told of
 -- the whole file.
 -- Assumes nothing.
-use mathlib.Core.Path.{◌≡◌, sym, ap, ◌∙◌}
-use mathlib.Core.Bool.{true}
-use mathlib.Core.List.{List}
-use Prim.Native.Nat.{ℕ, ◌≤◌}
-use native.Mathlib.Omega.{arith}
+use Rattle.std.proofs.Common.{◌≡◌, ◌∙◌, ◌+◌, ◌-◌, ◌≤◌, ℕ, true, false, sym, length, take, drop, arith}
+use lib.ListN.{length-drop}
 use Rattle.base.specs.Search.{first_in}
+use Rattle.base.proofs.SearchLaws.{at_found, none_found}
+use Rattle.base.proofs.Parts.{whole_part}
 use Rattle.fields.specs.Reading.{wrong}
-use Rattle.parsing.proofs.Checks.{fault_at, day-wrong, day_inside, day_late, Found, walk_begins, walk_ends, walk-wrong, field_inside, name_formed, walk_unfit, walk-on}
+use Rattle.parsing.proofs.Checks.{day-wrong, day_inside, day_late, Found, walk_begins, walk_ends, walk-wrong, field_inside, name_formed, walk_unfit, walk-on}
 use Rattle.parsing.proofs.check.Goals as goal
+use Rattle.parsing.proofs.check.Goals.{After-content_size-size, In_default-series_wrong}
 
--- the day's field has no wrong place
-day-whole : (file : List ℕ) (head : ℕ) → head ≡ first_in (wrong true file) 0 5 → 5 ≤ head → 5 ≤ first_in (wrong true file) 0 5
-day-whole file head e h = rw (← e) h
-
-pub returns-then-head-lt-DAY_FIELD : goal.returns-then-head-lt-DAY_FIELD
-returns-then-head-lt-DAY_FIELD c =
-    let e = c.first_wrong-head.ensures in
-    c.faulty.ensures ∙ ap fault_at e ∙ sym (day-wrong c.args.file.now (rw e at c.if-head-lt-DAY_FIELD.true))
+pub returns-in-Some : goal.returns-in-Some
+returns-in-Some c =
+    let file = c.args.file.now in
+    let found = at_found (wrong true file) 0 5 c.in-Some.place c.in-Some.ensures in
+    rw (← found.0) (sym (day-wrong file (rw found.0 found.1)))
 
 pub word-day-requires : goal.word-day-requires
-word-day-requires c = day_inside c.args.file.now (day-whole _ _ c.first_wrong-head.ensures c.if-head-lt-DAY_FIELD.false)
+word-day-requires c = omega (arith, day_inside c.args.file.now (none_found (wrong true c.args.file.now) 0 5 c.in_default.ensures))
 
 pub returns-then-day-ge-DAYS : goal.returns-then-day-ge-DAYS
 returns-then-day-ge-DAYS c =
-    c.faulty-then-day-ge-DAYS.ensures
-    ∙ sym (day_late c.args.file.now (day-whole _ _ c.first_wrong-head.ensures c.if-head-lt-DAY_FIELD.false) (rw c.word-day.ensures at c.if-day-ge-DAYS.true))
+    sym (day_late c.args.file.now (none_found (wrong true c.args.file.now) 0 5 c.in_default.ensures) (rw c.word-day.ensures at c.if-day-ge-DAYS.true))
 
 pub loop-at-init : goal.loop-at-init
 loop-at-init c =
-    walk_begins c.args.file.now c.word-day.result (day-whole _ _ c.first_wrong-head.ensures c.if-head-lt-DAY_FIELD.false) c.word-day.ensures c.if-day-ge-DAYS.false
+    walk_begins c.args.file.now c.word-day.result (none_found (wrong true c.args.file.now) 0 5 c.in_default.ensures) c.word-day.ensures c.if-day-ge-DAYS.false
 
-pub returns-then-place-size : goal.returns-then-place-size
-returns-then-place-size c =
-    let f : Found c.args.file.now c.loop-at.at c.content_size-size.result c.series_wrong-place.result = record { inside = c.loop-at-test.true; size = c.content_size-size.ensures.0; first = c.series_wrong-place.ensures } in
-    c.faulty-then-place-size.ensures ∙ sym (walk-wrong c.loop-at.invariant f c.if-place-size.true)
+here : (c : After-content_size-size) → Found c.args.file.now c.loop-at.at c.content_size-size.result
+here c = record { inside = c.loop-at-test.true; size = rw whole_part at c.content_size-size.ensures.0 }
 
-pub key_at-key-requires : goal.key_at-key-requires
-key_at-key-requires c =
-    let f : Found c.args.file.now c.loop-at.at c.content_size-size.result c.series_wrong-place.result = record { inside = c.loop-at-test.true; size = c.content_size-size.ensures.0; first = c.series_wrong-place.ensures } in
-    let w = c.loop-at.invariant in
-    (omega (arith, field_inside w f c.if-place-size.false), (name_formed w f c.if-place-size.false).placed)
+pub returns-in-Some-series_wrong : goal.returns-in-Some-series_wrong
+returns-in-Some-series_wrong c =
+    let file = c.args.file.now in
+    let at = c.loop-at.at in
+    let size : ℕ = 3 + c.content_size-size.result in
+    let found = at_found (wrong false (drop at file)) 0 size c.in-Some-series_wrong.place (rw (whole_part at file) at c.in-Some-series_wrong.ensures) in
+    sym (walk-wrong c.loop-at.invariant (here (goal.at.returns-in-Some-series_wrong c).After-content_size-size) c.in-Some-series_wrong.place found.0 found.1)
+
+-- no place of the field is wrong
+fine : (c : In_default-series_wrong) → 3 + c.content_size-size.result ≤ first_in (wrong false (drop c.loop-at.at c.args.file.now)) 0 (3 + c.content_size-size.result)
+fine c = none_found (wrong false (drop c.loop-at.at c.args.file.now)) 0 (3 + c.content_size-size.result) (rw (whole_part c.loop-at.at c.args.file.now) at c.in_default-series_wrong.ensures)
+
+pub slice_bounds-key_of-end : goal.slice_bounds-key_of-end
+slice_bounds-key_of-end c =
+    let file = c.args.file.now in
+    let at = c.loop-at.at in
+    let inside = field_inside c.loop-at.invariant (here (goal.at.slice_bounds-key_of-end c).After-content_size-size) (fine (goal.at.slice_bounds-key_of-end c).In_default-series_wrong) in
+    let room : 14 ≤ length (take (length file - at) (drop at file)) = rw (whole_part at file) (simp length-drop (omega arith)) in
+    room
+
+pub key_of-key-requires : goal.key_of-key-requires
+key_of-key-requires c =
+    let f = name_formed c.loop-at.invariant (here (goal.at.key_of-key-requires c).After-content_size-size) (fine (goal.at.key_of-key-requires c).In_default-series_wrong) in
+    rw (whole_part c.loop-at.at c.args.file.now) (f.long, f.placed)
 
 pub returns-then-not-is_taken : goal.returns-then-not-is_taken
 returns-then-not-is_taken c =
-    let f : Found c.args.file.now c.loop-at.at c.content_size-size.result c.series_wrong-place.result = record { inside = c.loop-at-test.true; size = c.content_size-size.ensures.0; first = c.series_wrong-place.ensures } in
-    c.faulty-then-not-is_taken.ensures
-    ∙ sym (walk_unfit c.loop-at.invariant f c.if-place-size.false c.key_at-key.ensures.0 (sym c.is_taken.ensures ∙ c.if-not-is_taken.true))
+    let key = rw (whole_part c.loop-at.at c.args.file.now) at c.key_of-key.ensures.0 in
+    sym (walk_unfit c.loop-at.invariant (here (goal.at.returns-then-not-is_taken c).After-content_size-size) (fine (goal.at.returns-then-not-is_taken c).In_default-series_wrong)
+    key (sym c.is_taken.ensures ∙ c.if-not-is_taken.true))
 
 pub loop-at-preserved : goal.loop-at-preserved
 loop-at-preserved c =
-    let f : Found c.args.file.now c.loop-at.at c.content_size-size.result c.series_wrong-place.result = record { inside = c.loop-at-test.true; size = c.content_size-size.ensures.0; first = c.series_wrong-place.ensures } in
-    walk-on c.loop-at.invariant f c.if-place-size.false c.key_at-key.ensures.0 (sym c.is_taken.ensures ∙ c.if-not-is_taken.false)
+    let key = rw (whole_part c.loop-at.at c.args.file.now) at c.key_of-key.ensures.0 in
+    walk-on c.loop-at.invariant (here (goal.at.loop-at-preserved c).After-content_size-size) (fine (goal.at.loop-at-preserved c).In_default-series_wrong)
+    key (sym c.is_taken.ensures ∙ c.if-not-is_taken.false)
 
 pub returns : goal.returns
-returns c = sym (walk_ends c.loop-at.invariant c.loop-at-test.false)
+returns c = sym (walk_ends c.loop-at.invariant (omega arith))

@@ -1,7 +1,9 @@
 -- `parsing::content_stands` meets its contract: each return rewrites with the tests that led there.
 -- Assumes nothing.
-use borrow.Author.Tests.{lt-ltb, le-ltb, eq-eqb, ne_eqb, le-leb, lt-leb}
+use Rattle.std.proofs.Common.{◌∙◌}
+use borrow.Author.Tests.{lt-ltb, le-ltb, eq-eqb, ne_eqb}
 use Rattle.base.specs.Lists.{within}
+use Rattle.base.proofs.Tests.{order_le}
 use Rattle.fields.specs.Reading.{content_stands}
 use Rattle.parsing.proofs.content_stands.Goals as goal
 
@@ -9,14 +11,12 @@ pub returns-then-tag-eq-DAY_TAG : goal.returns-then-tag-eq-DAY_TAG
 unfolding content_stands
 returns-then-tag-eq-DAY_TAG c = rw (eq-eqb _ _ c.if-tag-eq-DAY_TAG.true)
 
-pub returns-then-place : goal.returns-then-place
+pub returns-then-place-lt-LENGTH : goal.returns-then-place-lt-LENGTH
 unfolding content_stands
-returns-then-place c = rw (ne_eqb _ _ c.before.before.if-tag-eq-DAY_TAG.false, lt-ltb _ _ c.before.if-place.true) c.can_stand.ensures
+returns-then-place-lt-LENGTH c = rw (ne_eqb _ _ c.if-tag-eq-DAY_TAG.false, lt-ltb _ _ c.if-place-lt-LENGTH.true) c.can_stand.ensures
 
-pub returns-then-byte-ge1 : goal.returns-then-byte-ge1
+pub returns-else-place-lt-LENGTH : goal.returns-else-place-lt-LENGTH
 unfolding content_stands within
-returns-then-byte-ge1 c = rw (ne_eqb _ _ c.before.before.if-tag-eq-DAY_TAG.false, le-ltb _ _ c.before.if-place.false, le-leb _ _ c.if-byte-ge1.true)
-
-pub returns-else-byte-ge1 : goal.returns-else-byte-ge1
-unfolding content_stands within
-returns-else-byte-ge1 c = rw (ne_eqb _ _ c.before.before.if-tag-eq-DAY_TAG.false, le-ltb _ _ c.before.if-place.false, lt-leb _ _ c.if-byte-ge1.false)
+returns-else-place-lt-LENGTH c =
+    rw (ne_eqb _ _ c.if-tag-eq-DAY_TAG.false, le-ltb _ _ c.if-place-lt-LENGTH.false)
+    (c.contains.ensures.value ∙ rw (c.new.ensures.start, c.new.ensures.end, c.new.ensures.exhausted, order_le 1 c.args.byte, order_le c.args.byte 5))

@@ -1,44 +1,43 @@
 -- `parsing::read` meets its contract: 31 by the check, 30 by the number of series, else the copy.
 -- Assumes nothing.
-use mathlib.Core.Path.{◌≡◌, ap, ◌∙◌}
-use mathlib.Core.Bool.{false}
-use mathlib.Core.List.{List}
-use Prim.Native.Nat.{ℕ}
-use native.Mathlib.Omega.{arith}
-use lib.ListN.{length}
-use borrow.Author.Rules.{rules}
+use Rattle.std.proofs.Common.{◌≡◌, ◌∙◌, false, sym, ap, length, arith, rules}
+use Rattle.std.proofs.lemmas.Result.{err_from_is_err_and}
+use Rattle.base.specs.Numbers.{number_of}
+use Rattle.base.proofs.NumberLaws.{number-from}
 use Rattle.fields.specs.declared.Contents.{Contents}
 use Rattle.fields.specs.Reading.{file_read, is_faulty, series_in, checked_of}
 use Rattle.parsing.proofs.Copies.{sound, unsound, read-faulty, read_short, read_whole}
 use Rattle.parsing.proofs.read.Goals as goal
+use Rattle.parsing.proofs.read.Goals.{In_ok-filed}
 
--- a check that tells nothing accepts the file, and counts its series
-accepted : (file : List ℕ) (r : Contents) → r ≡ checked_of (file_read file) → r.number ≡ 0 → is_faulty (file_read file) ≡ false
-accepted file r e none = sound (file_read file) (rw e at none)
+pub returns-in_err-filed : goal.returns-in_err-filed
+returns-in_err-filed c =
+    let file = c.args.file.now in
+    let cause = c.in_err-filed.field-0.0 in
+    let told = c.in_err-filed.ensures in
+    let p = err_from_is_err_and c.from_residual.result c.from_residual.ensures.1 in
+    let r = read-faulty file c.args.list.now (unsound (file_read file) (λ e. omega (arith, ap (λ (k : Contents). k.number) told, e, number-from cause))) in
+    record { value = rw (p.1, p.2) (told ∙ r.0); list_after = r.1 }
 
-series-is : (file : List ℕ) (r : Contents) → r ≡ checked_of (file_read file) → r.series ≡ length (series_in (file_read file))
+-- a check that tells no cause accepts the file, and counts its series
+accepted : (c : In_ok-filed) → is_faulty (file_read c.args.file.now) ≡ false
+accepted c = sound (file_read c.args.file.now) (sym (ap (λ (k : Contents). k.number) c.in_ok-filed.ensures))
+
+counted : (c : In_ok-filed) → c.in_ok-filed.filed.series ≡ length (series_in (file_read c.args.file.now))
 unfolding checked_of
-series-is file r e = ap (λ (r : Contents). r.series) e
-
-pub returns-then-checked-ne0 : goal.returns-then-checked-ne0
-returns-then-checked-ne0 c =
-    let e = c.check-checked.ensures in
-    let r = read-faulty c.args.file.now c.args.list.now (unsound (file_read c.args.file.now) (rw e at c.if-checked-ne0.true)) in
-    record { value = e ∙ r.0; list_after = r.1 }
+counted c = ap (λ (k : Contents). k.series) c.in_ok-filed.ensures
 
 pub returns-then-list-series : goal.returns-then-list-series
 returns-then-list-series c =
-    let e = c.check-checked.ensures in
-    let r = read_short c.args.file.now c.args.list.now (accepted _ _ e c.if-checked-ne0.false) (omega (arith, series-is _ _ e)) in
+    let f = (goal.at.returns-then-list-series c).In_ok-filed in
+    let r = read_short c.args.file.now c.args.list.now (accepted f) (omega (arith, counted f)) in
     record { value = r.0; list_after = r.1 }
 
 pub copy_list-requires : goal.copy_list-requires
-copy_list-requires c =
-    let e = c.check-checked.ensures in
-    (accepted _ _ e c.if-checked-ne0.false, series-is _ _ e, search rules)
+copy_list-requires c = let f = (goal.at.copy_list-requires c).In_ok-filed in (accepted f, counted f, search rules)
 
 pub returns : goal.returns
 returns c =
-    let e = c.check-checked.ensures in
-    let r = read_whole c.args.file.now c.args.list.now (accepted _ _ e c.if-checked-ne0.false) (omega (arith, series-is _ _ e)) in
-    record { value = e ∙ r.0; list_after = c.copy_list.ensures ∙ rw (series-is _ _ e) r.1 }
+    let f = (goal.at.returns c).In_ok-filed in
+    let r = read_whole c.args.file.now c.args.list.now (accepted f) (omega (arith, counted f)) in
+    record { value = c.in_ok-filed.ensures ∙ r.0; list_after = c.copy_list.ensures ∙ rw (counted f) r.1 }

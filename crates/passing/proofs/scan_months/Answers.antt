@@ -1,63 +1,67 @@
 -- `passing::scan_months` meets its contract. Both loops keep an equation: what is left to search decides as the whole would.
 -- Assumes nothing.
-use mathlib.Core.Path.{sym, ◌∙◌}
+use mathlib.Core.Path.{refl, sym, ◌∙◌}
+use mathlib.Core.Bool.{or-false}
 use Prim.Native.Nat.{◌-◌}
 use native.Mathlib.Omega.{arith}
-use Rattle.base.proofs.SearchLaws.{first_end, first_hit, first_miss}
-use Rattle.dates.specs.Months.{third_friday}
+use Rattle.base.proofs.SearchLaws.{first_end, first_hit, first_miss, found_at, found-none, some_first, some-empty}
+use Rattle.dates.specs.Months.{month_count, third_friday}
 use Rattle.dates.proofs.MonthLaws.{third-friday_is, third-friday_rule, third-friday-below}
-use Rattle.calendar.specs.Calendar.{session}
-use Rattle.base.proofs.SearchLaws.{some_first, some-empty}
+use Rattle.calendar.specs.Calendar.{session, lacks, first_lacking}
 use Rattle.calendar.proofs.CalendarLaws.{lacks_parts}
 use Rattle.passing.proofs.scan_months.Goals as goal
 
-pub months-init : goal.months-init
-months-init c = c.first_quiet-month.ensures
+pub returns-in_err-from : goal.returns-in_err-from
+unfolding first_lacking
+returns-in_err-from c = c.from_residual.ensures ∙ sym (found-none (lacks c.args.calendar.now) 0 month_count c.in_err-from.ensures)
 
-pub recent_session-found-requires : goal.recent_session-found-requires
-recent_session-found-requires c =
-    let turn = c.before.before in
-    let m = turn.before.months.month in
-    let e = turn.before.before.before.before.requires.1.each m turn.months-test.true in
-    omega (arith, e, third-friday_is m, third-friday-below m turn.months-test.true)
+pub recent_session-requires : goal.recent_session-requires
+recent_session-requires c =
+    let m = c.months.month in
+    omega (arith, c.requires.each m c.months-test.true, third-friday_is m, third-friday-below m c.months-test.true)
 
-pub loop-found-init : goal.loop-found-init
-loop-found-init c =
-    let turn = c.before.before.before in
-    let m = turn.before.months.month in
-    let e = turn.before.before.before.before.requires.1.each m turn.months-test.true in
-    let first = c.before.first_day-day.ensures in
-    (e, omega (arith, first, e, (third-friday_rule m).from), rw (c.recent_session-found.ensures, first, e) (lacks_parts _ m))
+pub months-preserved-then-recent_session : goal.months-preserved-then-recent_session
+months-preserved-then-recent_session c =
+    let m = c.months.month in
+    let last = c.requires.each m c.months-test.true in
+    let recent = rw last at (sym c.recent_session.ensures ∙ c.if-recent_session.true) in
+    (c.months.invariant.0, c.months.invariant.1 ∙ first_miss _ _ _ c.months-test.true (lacks_parts _ m ∙ rw recent))
 
-pub overflow_add-day : goal.overflow_add-day
-overflow_add-day c = omega (arith, third-friday-below _ c.before.before.before.before.before.months-test.true)
+pub overflow_sub-day-end : goal.overflow_sub-day-end
+overflow_sub-day-end c = let m = c.months.month in omega (arith, c.requires.each m c.months-test.true, third-friday_is m)
 
-pub overflow_add-day-in-loop-found : goal.overflow_add-day-in-loop-found
-overflow_add-day-in-loop-found c = omega (arith, third-friday-below _ c.before.before.before.before.before.before.before.months-test.true)
+pub loop-day-init : goal.loop-day-init
+loop-day-init c =
+    let m = c.months.month in
+    let last = c.requires.each m c.months-test.true in
+    let first = c.first_day-day.ensures in
+    let none = rw last at (sym c.recent_session.ensures ∙ c.if-recent_session.false) in
+    (c.months.invariant.0, last, omega (arith, first, last, (third-friday_rule m).from), lacks_parts _ m ∙ rw (none, first))
 
-pub loop-found-preserved : goal.loop-found-preserved
-loop-found-preserved c =
-    let l = c.before.before.before.loop-found in
-    let m = c.before.before.before.before.before.before.before.before.months.month in
-    let none = c.before.before.loop-found-test.true in
-    let later = rw (none, some_first (session _) l.day (third_friday m - 14) (omega arith)) at l.invariant.2 in
-    (l.invariant.0, omega arith, rw c.has_session-found.ensures later)
+pub months-preserved-then-has_session : goal.months-preserved-then-has_session
+months-preserved-then-has_session c =
+    let l = c.loop-day in
+    let has = sym c.has_session.ensures ∙ c.if-has_session.true in
+    let lacks-not = l.invariant.3 ∙ rw (some_first (session _) l.day (third_friday c.months.month - 14) (omega arith), has) in
+    (l.invariant.0, c.months.invariant.1 ∙ first_miss _ _ _ c.months-test.true lacks-not)
 
-pub months-preserved : goal.months-preserved
-months-preserved c =
-    let l = c.before.loop-found in
-    let turn = c.before.before.before.before.before in
-    let has = rw (c.loop-found-test.false) at l.invariant.2 in
-    (omega arith, turn.before.months.invariant.1 ∙ first_miss _ _ _ turn.months-test.true has)
+pub loop-day-preserved : goal.loop-day-preserved
+loop-day-preserved c =
+    let l = c.loop-day in
+    let none = sym c.has_session.ensures ∙ c.if-has_session.false in
+    (l.invariant.0, l.invariant.1, omega arith, l.invariant.3 ∙ rw (some_first (session _) l.day (third_friday c.months.month - 14) (omega arith), none))
 
 pub returns-after-months : goal.returns-after-months
-returns-after-months c = sym (c.before.months.invariant.1 ∙ first_end _ _ _ c.months-test.false)
+unfolding first_lacking
+returns-after-months c =
+    let p = lacks c.args.calendar.now in
+    c.months.invariant.0 ∙ sym (found-none p 0 month_count (omega (arith, c.months.invariant.1, first_end p c.months.month month_count (omega arith))))
 
 pub returns-then-day-last : goal.returns-then-day-last
+unfolding first_lacking
 returns-then-day-last c =
-    let l = c.before.before.loop-found in
-    let turn = c.before.before.before.before.before.before in
-    let none = c.before.loop-found-test.true in
-    let m = turn.before.months.month in
-    let has-none = rw (none, some-empty (session _) l.day (third_friday m - 14) (omega arith)) at l.invariant.2 in
-    sym (turn.before.months.invariant.1 ∙ first_hit _ _ _ turn.months-test.true has-none)
+    let l = c.loop-day in
+    let p = lacks c.args.calendar.now in
+    let m = c.months.month in
+    let lacks-all = l.invariant.3 ∙ rw (some-empty (session _) l.day (third_friday m - 14) (omega arith)) in
+    sym (found_at p 0 month_count m c.months-test.true (c.months.invariant.1 ∙ first_hit p m month_count c.months-test.true lacks-all))

@@ -8,8 +8,6 @@ use Rattle.calendar.specs.Calendar.{expiry_of}
 use Rattle.calendar.specs.Live.{first_live, live_months}
 use Rattle.rules.specs.Rulebook.{begun, first_at}
 use Rattle.rules.proofs.RulebookLaws as Rulebook
-use Rattle.layout.specs.Bytes.{read_rows}
-use Rattle.ladders.specs.Writing.{rows_in}
 use Rattle.spans.specs.Spans.{close_spans}
 use Rattle.relisting.proofs.Starts.{close-low, close-high, day-in, none, start_ready, start-done}
 use Rattle.relisting.proofs.list_start.Goals as goal
@@ -31,7 +29,7 @@ pub first_live-first-requires : goal.first_live-first-requires
 unfolding begun
 first_live-first-requires c =
     let a = c.args in
-    (day-in a.calendar.now (begun a.day) a.close c.requires.taken, c.requires.taken.passes)
+    day-in a.calendar.now (begun a.day) a.close c.requires.taken
 
 pub live_months-months-requires : goal.live_months-months-requires
 live_months-months-requires c = omega (arith, first_is c.args.calendar.now c.args.day _ c.first_live-first.ensures, c.requires.taken.live)
@@ -44,17 +42,16 @@ close_spans-spans-requires c =
     rw (months_are a.calendar.now a.day _ _ c.first_live-first.ensures c.live_months-months.ensures)
     (omega arith, close-low a.calendar.now (begun a.day) a.close c.requires.taken, close-high a.calendar.now (begun a.day) a.close c.requires.taken)
 
-pub list-count-requires-clause-ready : goal.list-count-requires-clause-ready
+pub invariant_of-plans : goal.invariant_of-plans
 unfolding live_months
-list-count-requires-clause-ready c =
+invariant_of-plans c =
     let a = c.args in
     let f = c.first_live-first.ensures in
     let m = c.live_months-months.ensures in
     rw (spans_are a.calendar.now a.day _ _ _ a.close f m c.close_spans-spans.ensures, months_are a.calendar.now a.day _ _ f m)
-    (start_ready a.calendar.now a.day a.close c.requires.taken)
+    (record { ready = start_ready a.calendar.now a.day a.close c.requires.taken })
 
 pub returns : goal.returns
-unfolding rows_in read_rows
 returns c =
     let a = c.args in
     let f = c.first_live-first.ensures in

@@ -1,10 +1,15 @@
 -- `relisting::write_head` meets its contract.
 -- Assumes nothing.
-use Rattle.base.specs.Words.{two}
+use Rattle.std.proofs.Common.{arith}
+use Rattle.std.proofs.lemmas.List.{length-take-le}
+use Rattle.layout.specs.Bytes.{rows_from}
 use Rattle.relisting.proofs.Head.{head_is}
-use native.Mathlib.Omega.{arith}
 use Rattle.relisting.proofs.write_head.Goals as goal
 
+pub slice_bounds-fill-end-2 : goal.slice_bounds-fill-end-2
+slice_bounds-fill-end-2 c = omega (arith, length-take-le rows_from c.args.register.now (omega (arith, c.requires)))
+
 pub returns : goal.returns
-unfolding two
-returns c = head_is c.args.day c.args.count c.args.register.now c.clear.new.part (omega (arith, c.requires)) c.clear.ensures
+returns c =
+    let a = c.args in
+    rw (c.put_word-2.ensures, c.put_word.ensures) (head_is a.day a.count a.register.now c.fill.new.self (omega (arith, c.requires)) (c.fill.ensures.after (λ y e. e)))

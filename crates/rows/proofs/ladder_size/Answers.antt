@@ -3,16 +3,24 @@
 use Prim.Native.Nat.{◌-◌, ◌/◌, ◌≤◌}
 use native.Mathlib.Nat.{div-le_self}
 use native.Mathlib.Omega.{arith}
-use Rattle.grid.proofs.Prices.{number_le}
+use mathlib.Core.Path.{◌≡◌}
+use Rattle.grid.specs.Numbers.{number_of}
+use Rattle.grid.proofs.Prices.{number_le, number-or}
 use Rattle.grid.proofs.Grids.{stride_pos}
 use Rattle.rows.specs.Places.{ladder_size}
 use Rattle.rows.proofs.ladder_size.Goals.{After-stride_of}
 use Rattle.rows.proofs.ladder_size.Goals as goal
 
-small : (c : After-stride_of) → (c.number_of-to.result - c.number_of-from.result) / c.stride_of.result ≤ 507
+from_is : (c : After-stride_of) → c.unwrap_or-from.result ≡ number_of c.args.low
+from_is c = number-or c.args.low c.unwrap_or-from.ensures c.number_of.ensures
+
+to_is : (c : After-stride_of) → c.unwrap_or-to.result ≡ number_of c.args.high
+to_is c = number-or c.args.high c.unwrap_or-to.ensures c.number_of-2.ensures
+
+small : (c : After-stride_of) → (c.unwrap_or-to.result - c.unwrap_or-from.result) / c.stride_of.result ≤ 507
 small c =
-    let to = c.number_of-to in
-    omega (arith, to.ensures, number_le c.args.high, div-le_self (to.result - c.number_of-from.result) c.stride_of.result)
+    let to = c.unwrap_or-to.result in
+    omega (arith, to_is c, number_le c.args.high, div-le_self (to - c.unwrap_or-from.result) c.stride_of.result)
 
 pub nonzero_div-result : goal.nonzero_div-result
 nonzero_div-result c = omega (arith, c.stride_of.ensures, stride_pos c.args.tier)
@@ -25,4 +33,6 @@ overflow_add-result c = omega (arith, small (goal.at.overflow_add-result c).Afte
 
 pub returns : goal.returns
 unfolding ladder_size
-returns c = (rw (c.number_of-from.ensures, c.number_of-to.ensures, c.stride_of.ensures), omega (arith, small (goal.at.returns c).After-stride_of))
+returns c =
+    let s = (goal.at.returns c).After-stride_of in
+    (rw (from_is s, to_is s, c.stride_of.ensures), omega (arith, small s))

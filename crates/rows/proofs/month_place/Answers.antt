@@ -18,19 +18,19 @@ size : (c : After-ladder_size-size) →
 size c = rw c.tier_of.ensures at (ap (λ (k : ℕ). 8 * k) c.ladder_size-size.ensures.0)
 
 pub loop-i-init : goal.loop-i-init
-loop-i-init c = (omega arith, omega arith, refl)
+loop-i-init c = (omega arith, refl)
 
 pub ladder_size-size-requires : goal.ladder_size-size-requires
 ladder_size-size-requires c = c.requires.1 c.loop-i.i c.loop-i-test.true
 
-pub returns-then-month-live : goal.returns-then-month-live
-returns-then-month-live c =
+pub returns-then-month-from : goal.returns-then-month-from
+returns-then-month-from c =
     let a = c.args in
     let l = c.loop-i in
     let v = c.live_months-months in
     let n = six_months _ _ v.ensures in
-    rw (← v.ensures, size (goal.at.returns-then-month-live c).After-ladder_size-size)
-    (sym (l.invariant.2 ∙ rows-here a.first a.month l.at v.result a.spans l.i (omega arith) c.if-month-live.true))
+    rw (← v.ensures, size (goal.at.returns-then-month-from c).After-ladder_size-size)
+    (sym (l.invariant.1 ∙ rows-here a.first a.month l.at v.result a.spans l.i (omega arith) (c.if-month-from.true ∙ c.from.ensures)))
 
 pub loop-i-preserved : goal.loop-i-preserved
 loop-i-preserved c =
@@ -38,8 +38,8 @@ loop-i-preserved c =
     let l = c.loop-i in
     let v = c.live_months-months in
     let n = six_months _ _ v.ensures in
-    let e = rows_next a.first a.month l.at v.result a.spans l.i (omega arith) c.if-month-live.false in
-    (omega arith, omega (arith, c.ladder_size-size.ensures.1), l.invariant.2 ∙ e ∙ rw (← size (goal.at.loop-i-preserved c).After-ladder_size-size))
+    let e = rows_next a.first a.month l.at v.result a.spans l.i (omega arith) (λ e. c.if-month-from.false (e ∙ sym c.from.ensures)) in
+    (omega (arith, c.ladder_size-size.ensures.1), l.invariant.1 ∙ e ∙ rw (← size (goal.at.loop-i-preserved c).After-ladder_size-size))
 
 pub returns : goal.returns
 unfolding month_place
@@ -49,5 +49,4 @@ returns c =
     let v = c.live_months-months in
     let n = six_months _ _ v.ensures in
     let d = drop_of_length-le v.result {i = l.i} (omega arith) in
-    c.refused.ensures
-    ∙ rw (← v.ensures) (sym (l.invariant.2 ∙ ap (λ (ms : List ℕ). month_place a.first a.month l.at ms (drop l.i a.spans)) d))
+    rw (← v.ensures) (sym (l.invariant.1 ∙ ap (λ (ms : List ℕ). month_place a.first a.month l.at ms (drop l.i a.spans)) d))

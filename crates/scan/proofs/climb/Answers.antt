@@ -1,65 +1,55 @@
 -- `scan::climb` meets its contract. The loop keeps an equation: the rows passed and those that still go up from the price are all that do.
 -- Assumes nothing.
-use mathlib.Core.Path.{◌≡◌, sym, ◌∙◌}
-use Prim.Native.Nat.{◌+◌, ◌-◌, ◌*◌, ◌<◌}
-use native.Mathlib.Omega.{arith}
-use Rattle.scan.specs.Scan.{rows_at, climbed}
-use Rattle.grid.specs.Numbers.{band_step, band_end}
-use Rattle.base.proofs.Loops.{start_of, next_of}
-use Rattle.scan.proofs.Steps.{climbed_end, climbed_stop, climbed-more, climbed_top}
+use Rattle.std.proofs.Common.{sym, ap, ◌∙◌, ◌+◌, ◌<◌, map, drop, arith}
+use Rattle.grid.specs.Numbers.{band_end}
 use Rattle.grid.proofs.Runs.{band-kept, end_le}
-use Rattle.scan.proofs.climb.Goals.{Else-not-row_fits}
+use Rattle.scan.specs.Scan.{scanned, climbed}
+use Rattle.scan.proofs.Steps.{no-row, climbed_end, climbed_top, climb_stops, climb-goes}
+use Rattle.scan.proofs.climb.Goals.{then-band-price+else-price-ge10000, else-band-price}
 use Rattle.scan.proofs.climb.Goals as goal
-
-more : (c : Else-not-row_fits) →
-    let a = c.args in
-    let l = c.loop-n in
-    climbed a.day a.month a.stride a.low (rows_at a.register.now a.at a.rows)
-    ≡ l.n + 1 + climbed a.day a.month a.stride (l.price + l.band.step) (rows_at a.register.now (a.at + 8 * (l.n + 1)) (a.rows - (l.n + 1)))
-more c =
-    let a = c.args in
-    let l = c.loop-n in
-    let e = climbed-more a.day a.month a.stride l.price a.register.now (a.at + 8 * l.n) (a.rows - l.n) (omega arith) l.invariant.1
-    (sym c.row_fits.ensures ∙ c.if-not-row_fits.false) in
-    let f = next_of (λ n p. climbed a.day a.month a.stride (l.price + a.stride * band_step l.price) (rows_at a.register.now p n)) 8 a.rows a.at l.n in
-    rw l.invariant.2 (omega (arith, l.invariant.5, e, f))
-
-pub loop-n-init : goal.loop-n-init
-loop-n-init c =
-    let a = c.args in
-    let b = c.band_of-band.ensures in
-    (omega arith, omega arith, b.0, b.1, b.2, start_of (λ n p. climbed a.day a.month a.stride a.low (rows_at a.register.now p n)) 8 a.rows a.at ∙ omega arith)
 
 pub returns-then-not-row_fits : goal.returns-then-not-row_fits
 returns-then-not-row_fits c =
     let a = c.args in
     let l = c.loop-n in
-    let e = climbed_stop a.day a.month a.stride l.price a.register.now (a.at + 8 * l.n) (a.rows - l.n) (omega arith) l.invariant.1
-    (sym c.row_fits.ensures ∙ c.if-not-row_fits.true) in
-    omega (arith, l.invariant.5, e)
+    climb_stops a.day a.month a.stride a.low l.price l.n a.rows.now c.loop-n-test.true l.invariant.price_fits l.invariant.passed
+    (sym c.row_fits.ensures ∙ c.if-not-row_fits.true)
 
 pub returns-then-price-ge10000 : goal.returns-then-price-ge10000
 returns-then-price-ge10000 c =
     let a = c.args in
     let l = c.loop-n in
-    let e = climbed_top a.day a.month a.stride (l.price + l.band.step) (rows_at a.register.now (a.at + 8 * (l.n + 1)) (a.rows - (l.n + 1))) c.if-price-ge10000.true in
-    omega (arith, more (goal.at.returns-then-price-ge10000 c).Else-not-row_fits, e)
-
-pub loop-n-preserved-then-band-price : goal.loop-n-preserved-then-band-price
-loop-n-preserved-then-band-price c =
-    let b = c.band_of-band-then-band-price.ensures in
-    (omega arith, c.if-price-ge10000.false, b.0, b.1, b.2, more (goal.at.loop-n-preserved-then-band-price c).Else-not-row_fits)
+    let e = climb-goes a.day a.month a.stride a.low l.price l.n a.rows.now c.loop-n-test.true l.invariant.price_fits l.invariant.passed
+    (sym c.row_fits.ensures ∙ c.if-not-row_fits.false) in
+    let top = climbed_top a.day a.month a.stride (l.price + l.band.step) (map scanned (drop (l.n + 1) a.rows.now)) c.if-price-ge10000.true in
+    let f = rw (← l.invariant.step_is) at e in
+    omega (arith, f, top)
 
 pub loop-n-preserved : goal.loop-n-preserved
 loop-n-preserved c =
+    let a = c.args in
     let l = c.loop-n in
-    let u : l.price + l.band.step < band_end l.price = rw l.invariant.4 at c.if-band-price.false in
-    let k = band-kept l.price (l.price + l.band.step) (omega arith) u in
-    (omega arith, omega (arith, end_le l.price), l.invariant.2 ∙ rw k.0, l.invariant.3, l.invariant.4 ∙ sym k.1, more (goal.at.loop-n-preserved c).Else-not-row_fits)
+    let e = climb-goes a.day a.month a.stride a.low l.price l.n a.rows.now c.loop-n-test.true l.invariant.price_fits l.invariant.passed
+    (sym c.row_fits.ensures ∙ c.if-not-row_fits.false) in
+    let f = rw (← l.invariant.step_is) at e in
+    elim c.if-band-price.branch [
+      | then-band-price+else-price-ge10000 w ↦
+          let b = w.band_of-band-then-band-price.ensures in
+          rw w.band-is (record { price_fits = w.if-price-ge10000.false; step_is = b.0 ∙ rw c.from-by.ensures; step_small = b.1; end_is = b.2; passed = f })
+      | else-band-price w ↦
+          let u : l.price + l.band.step < band_end l.price = rw l.invariant.end_is at w.if-band-price.false in
+          let k = band-kept l.price (l.price + l.band.step) (omega arith) u in
+          rw w.band-is (record {
+            price_fits = omega (arith, end_le l.price);
+            step_is = l.invariant.step_is ∙ rw k.0;
+            step_small = l.invariant.step_small;
+            end_is = l.invariant.end_is ∙ sym k.1;
+            passed = f;
+          })
+    ]
 
 pub returns : goal.returns
 returns c =
     let a = c.args in
     let l = c.loop-n in
-    let e = climbed_end a.day a.month a.stride l.price a.register.now (a.at + 8 * l.n) (a.rows - l.n) (omega arith) in
-    omega (arith, l.invariant.5, e)
+    omega (arith, l.invariant.passed, ap (climbed a.day a.month a.stride l.price) (no-row a.rows.now l.n c.loop-n-test.false), climbed_end a.day a.month a.stride l.price)

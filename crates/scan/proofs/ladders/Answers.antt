@@ -1,102 +1,68 @@
 -- `scan::ladders` meets its contract. The loop keeps an equation: the months left, on the rows left and beside the spans found, give what
 -- all months give on all rows.
 -- Assumes nothing.
-use mathlib.Core.Path.{◌≡◌, refl, sym, ◌∙◌}
-use mathlib.Core.List.{[], ◌∷◌}
-use Prim.Native.Nat.{◌+◌, ◌-◌, ◌*◌, ◌≤◌}
-use native.Mathlib.Numerals.{add-one}
-use native.Mathlib.Omega.{arith}
-use lib.ListN.{get_or, take, drop, drop_of_length-le, length-set}
-use lib.Seq.{take_all, take-suc-set}
+use Rattle.std.proofs.Common.{◌≡◌, sym, ◌∙◌, [], ◌∷◌, ◌≤◌, refl, map, take, drop, length, get_or, length-set, arith}
+use Rattle.std.proofs.lemmas.List.{take_more_set, take_all, drop_all}
 use Rattle.calendar.specs.Live.{tier_of}
-use Rattle.scan.specs.Scan.{rows_at, ladder_rows, ladder_spans}
-use Rattle.base.proofs.Loops.{start_of}
-use Rattle.scan.proofs.Steps.{six_months, ladder_le, spans_stop, spans-more, spans_end, spans_over}
-use Rattle.layout.specs.Bytes.{rows_from}
-use Rattle.scan.proofs.ladders.Goals.{After-ladder-n, After-loop-i}
+use Rattle.scan.specs.Scan.{scanned, ladder_rows, ladder_spans}
+use Rattle.scan.proofs.Steps.{six_months, some-rows, no-rows, within_rest, spans_stop, spans-more, spans_end}
+use Rattle.scan.proofs.ladders.Goals.{In_ok-n}
 use Rattle.scan.proofs.ladders.Goals as goal
 
-found : (c : After-ladder-n) →
+found : (c : In_ok-n) →
     let a = c.args in
-    let l = c.loop-i in
-    let m = get_or c.live_months-months.result l.i 0 in
-    c.ladder-n.result ≡ ladder_rows a.day m (tier_of a.first m) (rows_at a.register.now (rows_from + 8 * l.past) (a.rows - l.past))
-found c = rw c.tier_of.ensures at c.ladder-n.ensures
+    let m = get_or c.live_months-months.result c.loop-i.i 0 in
+    (c.in_ok-n.n ≡ ladder_rows a.day m (tier_of a.first m) (map scanned c.loop-i.rest.now)) × (c.in_ok-n.n ≡ 0 → ⊥)
+found c =
+    let e = rw c.tier_of.ensures at c.in_ok-n.ensures in
+    let r = some-rows _ _ e in
+    (r.0, λ z. r.1 (sym r.0 ∙ z))
 
-fits : (c : After-ladder-n) → c.ladder-n.result ≤ c.args.rows - c.loop-i.past
+fits : (c : In_ok-n) → c.in_ok-n.n ≤ length c.loop-i.rest.now
 fits c =
     let a = c.args in
     let l = c.loop-i in
-    let m = get_or c.live_months-months.result l.i 0 in
-    omega (arith, found c, ladder_le a.day m (tier_of a.first m) a.register.now (rows_from + 8 * l.past) (a.rows - l.past))
-
-none_left : (c : After-loop-i) → drop c.loop-i.i c.live_months-months.result ≡ []
-none_left c =
     let v = c.live_months-months in
-    let n = six_months _ _ v.ensures in
-    drop_of_length-le v.result {i = c.loop-i.i} (omega arith)
+    within_rest a.day a.first (take l.i l.spans) v.result l.i (omega (arith, six_months _ _ v.ensures)) l.rest.now _ (found c).0
 
-pub loop-i-init : goal.loop-i-init
-loop-i-init c =
-    let a = c.args in
-    let v = c.live_months-months in
-    (omega arith, omega arith, refl, start_of (λ n p. ladder_spans a.day a.first [] v.result (rows_at a.register.now p n)) 8 a.rows rows_from)
-
-pub returns-then-n-eq0 : goal.returns-then-n-eq0
-returns-then-n-eq0 c =
+pub returns-in_err-n : goal.returns-in_err-n
+returns-in_err-n c =
     let a = c.args in
     let l = c.loop-i in
     let v = c.live_months-months in
-    let n = six_months _ _ v.ensures in
-    let e = spans_stop a.day a.first (take l.i l.spans) v.result l.i (omega arith) a.register.now (rows_from + 8 * l.past) (a.rows - l.past)
-    _ (found (goal.at.returns-then-n-eq0 c).After-ladder-n) c.if-n-eq0.true in
-    sym (rw v.ensures at (l.invariant.3 ∙ e))
+    let e = no-rows _ (rw c.tier_of.ensures at c.in_err-n.ensures) in
+    c.from_residual.ensures
+    ∙ sym (rw v.ensures at (l.invariant.passed ∙ spans_stop a.day a.first (take l.i l.spans) v.result l.i (omega (arith, six_months _ _ v.ensures)) l.rest.now 0 (sym e) refl))
 
-pub word-low-requires : goal.word-low-requires
-word-low-requires c = omega (arith, fits (goal.at.word-low-requires c).After-ladder-n)
+pub price_at-requires : goal.price_at-requires
+price_at-requires c = let f = found (goal.at.price_at-requires c).In_ok-n in omega (arith, f.1, fits (goal.at.price_at-requires c).In_ok-n)
 
-pub overflow_mul-n : goal.overflow_mul-n
-overflow_mul-n c = omega (arith, fits (goal.at.overflow_mul-n c).After-ladder-n)
+pub price_at-requires-in-loop-i : goal.price_at-requires-in-loop-i
+price_at-requires-in-loop-i c = let f = found (goal.at.price_at-requires-in-loop-i c).In_ok-n in omega (arith, f.1, fits (goal.at.price_at-requires-in-loop-i c).In_ok-n)
 
-pub overflow_add-at-in-loop-i-2 : goal.overflow_add-at-in-loop-i-2
-overflow_add-at-in-loop-i-2 c = omega (arith, fits (goal.at.overflow_add-at-in-loop-i-2 c).After-ladder-n)
-
-pub overflow_add-at-in-loop-i-3 : goal.overflow_add-at-in-loop-i-3
-overflow_add-at-in-loop-i-3 c = omega (arith, fits (goal.at.overflow_add-at-in-loop-i-3 c).After-ladder-n)
-
-pub word-high-requires : goal.word-high-requires
-word-high-requires c = omega (arith, fits (goal.at.word-high-requires c).After-ladder-n)
-
-pub overflow_add-past : goal.overflow_add-past
-overflow_add-past c = omega (arith, fits (goal.at.overflow_add-past c).After-ladder-n)
+pub split_at-requires : goal.split_at-requires
+split_at-requires c = fits (goal.at.split_at-requires c).In_ok-n
 
 pub loop-i-preserved : goal.loop-i-preserved
 loop-i-preserved c =
     let a = c.args in
     let l = c.loop-i in
     let v = c.live_months-months in
-    let n = c.ladder-n.result in
-    let k = six_months _ _ v.ensures in
-    let e = spans-more a.day a.first (take l.i l.spans) v.result l.i (omega arith) a.register.now (rows_from + 8 * l.past) (a.rows - l.past)
-    n (found (goal.at.loop-i-preserved c).After-ladder-n) c.if-n-eq0.false in
-    let p : rows_from + 8 * l.past + 8 * n ≡ rows_from + 8 * (l.past + n) = omega arith in
-    let q : a.rows - l.past - n ≡ a.rows - (l.past + n) = omega arith in
-    let t = take-suc-set l.spans l.i (c.word-low.result ∷ c.word-high.result ∷ []) (omega arith) in
-    let f = fits (goal.at.loop-i-preserved c).After-ladder-n in
-    (omega arith, omega arith, simp length-set l.invariant.2, l.invariant.3 ∙ e ∙ rw (p, q, add-one l.i, t, c.word-low.ensures, c.word-high.ensures))
-
-pub returns-then-past-rows : goal.returns-then-past-rows
-returns-then-past-rows c =
-    let a = c.args in
-    let l = c.loop-i in
-    let v = c.live_months-months in
-    let e = spans_over a.day a.first (take l.i l.spans) _ (none_left (goal.at.returns-then-past-rows c).After-loop-i) a.register.now (rows_from + 8 * l.past) (a.rows - l.past) (omega arith) in
-    sym (rw v.ensures at (l.invariant.3 ∙ e))
+    let f = found (goal.at.loop-i-preserved c).In_ok-n in
+    let e = spans-more a.day a.first (take l.i l.spans) v.result l.i (omega (arith, six_months _ _ v.ensures)) l.rest.now _ f.0 f.1 in
+    let t = take_more_set l.spans l.i (c.price_at.result ∷ c.price_at-in-loop-i.result ∷ []) (omega arith) in
+    record {
+      six = simp length-set l.invariant.six;
+      passed = l.invariant.passed ∙ e ∙ rw (t, c.price_at.ensures, c.price_at-in-loop-i.ensures, c.split_at.ensures.back);
+    }
 
 pub returns : goal.returns
 returns c =
     let a = c.args in
     let l = c.loop-i in
     let v = c.live_months-months in
-    let e = spans_end a.day a.first (take l.i l.spans) _ (none_left (goal.at.returns c).After-loop-i) a.register.now (rows_from + 8 * l.past) (a.rows - l.past) (omega arith) in
-    sym (rw v.ensures at (l.invariant.3 ∙ e ∙ take_all l.i l.spans (omega arith)))
+    let n = six_months _ _ v.ensures in
+    let none_left : drop l.i v.result ≡ [] = drop_all l.i v.result (omega arith) in
+    let all : take l.i l.spans ≡ l.spans = take_all l.i l.spans (omega arith) in
+    let p : ladder_spans a.day a.first [] v.result (map scanned a.rows.now) ≡ ladder_spans a.day a.first l.spans [] (map scanned l.rest.now) = l.invariant.passed ∙ rw (none_left, all) in
+    rw (c.then_some.ensures, c.is_empty.ensures) (spans_end a.day a.first l.spans l.rest.now ∙ sym (rw v.ensures at p))

@@ -1,48 +1,26 @@
 -- `scan::row_fits` meets its contract: month and price, each below 65536, are equal where the two together are.
 -- Assumes nothing.
-use mathlib.Core.Path.{◌≡◌, sym}
-use Prim.Native.Nat.{◌+◌}
-use native.Mathlib.Omega.{arith}
-use Rattle.base.specs.Words.{at16}
-use Rattle.scan.specs.Scan.{row_at}
-use Rattle.scan.proofs.Steps.{fits_not, fits_late, fits_none, fits-origin}
-use Rattle.scan.proofs.row_fits.Goals.{Else-key-month}
+use Rattle.std.proofs.Common.{sym, ◌∙◌, arith}
+use borrow.Author.Tests.{lt-leb}
+use Rattle.scan.specs.Scan.{scanned}
+use Rattle.scan.proofs.Steps.{fits_not, fits_late, fits_no_origin, fits-origin}
+use Rattle.scan.proofs.row_fits.Goals.{then-key-from-via-then-key-from, then-key-from-via-else-key-from+then-day-word}
 use Rattle.scan.proofs.row_fits.Goals as goal
 
-same : (c : Else-key-month) →
+pub returns-then-key-from : goal.returns-then-key-from
+returns-then-key-from c =
     let a = c.args in
-    (at16 a.register.now a.at ≡ a.month) × (at16 a.register.now (a.at + 2) ≡ a.price)
-same c =
-    let m = c.word.ensures in
-    let p = c.word-2.ensures in
-    (omega arith, omega arith)
+    elim c.then-key-from.branch [
+      | then-key-from-via-then-key-from w ↦ sym (fits_not a.day a.month a.price (scanned a.row.now) (λ e g. w.if-key-from.true (omega arith)))
+      | then-key-from-via-else-key-from+then-day-word w ↦ sym (fits_late a.day a.month a.price (scanned a.row.now) (omega arith))
+    ]
 
-pub returns-then-key-month : goal.returns-then-key-month
-returns-then-key-month c =
+pub returns-then-origin-ge1 : goal.returns-then-origin-ge1
+returns-then-origin-ge1 c =
     let a = c.args in
-    let m = c.word.ensures in
-    let p = c.word-2.ensures in
-    sym (fits_not a.day a.month a.price (row_at a.register.now a.at) (λ e g. c.if-key-month.true (omega arith)))
+    rw c.word-origin.ensures (sym (fits-origin a.day a.month a.price (scanned a.row.now) (omega arith) (omega arith) (omega arith) (omega arith)))
 
-pub returns-then-day-word : goal.returns-then-day-word
-returns-then-day-word c =
+pub returns-else-origin-ge1 : goal.returns-else-origin-ge1
+returns-else-origin-ge1 c =
     let a = c.args in
-    let e = same (goal.at.returns-then-day-word c).Else-key-month in
-    let f = c.word-3.ensures in
-    sym (fits_late a.day a.month a.price (row_at a.register.now a.at) e.0 e.1 (omega arith))
-
-pub returns-then-origin-lt1 : goal.returns-then-origin-lt1
-returns-then-origin-lt1 c =
-    let a = c.args in
-    let e = same (goal.at.returns-then-origin-lt1 c).Else-key-month in
-    let f = c.word-3.ensures in
-    let o = c.word-origin.ensures in
-    sym (fits_none a.day a.month a.price (row_at a.register.now a.at) e.0 e.1 (omega arith) (omega arith))
-
-pub returns : goal.returns
-returns c =
-    let a = c.args in
-    let e = same (goal.at.returns c).Else-key-month in
-    let f = c.word-3.ensures in
-    let o = c.word-origin.ensures in
-    rw o (sym (fits-origin a.day a.month a.price (row_at a.register.now a.at) e.0 e.1 (omega arith) (omega arith)))
+    lt-leb 1 _ c.if-origin-ge1.false ∙ sym (fits_no_origin a.day a.month a.price (scanned a.row.now) (omega arith))

@@ -1,9 +1,6 @@
 -- What the loops of `spans::close_spans` keep.
 -- Assumes nothing.
-use mathlib.Core.Path.{◌≡◌}
-use mathlib.Core.List.{List, []}
-use Prim.Native.Nat.{ℕ, ◌-◌, ◌≤◌}
-use lib.ListN.{length, get_or}
+use Rattle.std.proofs.Common.{◌≡◌, [], ℕ, List, length, get_or}
 use Rattle.calendar.specs.Live.{tier_of}
 use Rattle.grid.specs.Grid.{required_low, required_high}
 use Rattle.spans.specs.Spans.{close_pair}
@@ -15,7 +12,4 @@ pair months held close i =
     close_pair (get_or held i []) (required_low (tier_of (get_or months 0 0) (get_or months i 0)) close) (required_high (tier_of (get_or months 0 0) (get_or months i 0)) close)
 
 abbrev pub invariant-loop-i : goal.invariant-loop-i
-invariant-loop-i l = (l.i ≤ 6) × (length l.spans ≡ 6) × Filled (pair l.months l.held l.close) l.spans l.i
-
-abbrev pub decreases-loop-i : goal.decreases-loop-i
-decreases-loop-i l = 6 - l.i
+invariant-loop-i l = record { six : length l.spans ≡ 6; so_far : Filled (pair l.fn.months l.fn.held l.fn.close) l.spans l.i }

@@ -8,6 +8,6 @@ use Rattle.spans.proofs.held_spans.Goals as goal
 pub returns : goal.returns
 unfolding held_spans
 returns c =
-    let l = c.before.loop-i in
-    let a = c.before.before.args in
-    filled (pair a.before a.spans a.months) l.held l.i c.loop-i-test.false l.invariant.1 l.invariant.2
+    let l = c.loop-i in
+    let a = c.args in
+    filled (pair a.before a.spans a.months) l.held l.i c.loop-i-test.false l.invariant.six l.invariant.so_far

@@ -8,6 +8,6 @@ use Rattle.spans.proofs.new_spans.Goals as goal
 pub returns : goal.returns
 unfolding new_spans
 returns c =
-    let l = c.before.loop-i in
-    let a = c.before.before.before.args in
-    filled (pair a.register.now a.n a.months a.held a.wide) l.spans l.i c.loop-i-test.false l.invariant.1 l.invariant.2
+    let l = c.loop-i in
+    let a = c.args in
+    filled (pair a.places.now a.months a.held a.wide) l.spans l.i c.loop-i-test.false l.invariant.six l.invariant.so_far

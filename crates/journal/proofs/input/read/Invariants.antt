@@ -1,8 +1,7 @@
--- What the loops of `journal::input::read` keep.
+-- What the loop of `journal::input::read` keeps.
 -- Assumes nothing.
-use Prim.Native.Nat.{◌-◌}
-use lib.ListN.{length}
+use Rattle.std.proofs.Common.{◌≤◌, length}
 use Rattle.journal.proofs.input.read.Given as goal
 
-abbrev pub decreases-loop-i : goal.decreases-loop-i
-decreases-loop-i l = length l.text - l.i
+abbrev pub invariant-loop-number : goal.invariant-loop-number
+invariant-loop-number l = l.count ≤ length l.calls

@@ -1,6 +1,0 @@
--- `commands::words::seek` ends. Assumes nothing.
-use Rattle.std.proofs.Common.{◌-◌}
-use Rattle.commands.proofs.words.seek.Given as goal
-
-abbrev pub decreases-loop-at : goal.decreases-loop-at
-decreases-loop-at l = l.n - l.at

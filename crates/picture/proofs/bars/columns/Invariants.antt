@@ -1,6 +1,0 @@
--- `picture::bars::columns` is safe and ends. Assumes nothing.
-use Prim.Native.Nat.{◌-◌}
-use Rattle.picture.proofs.bars.columns.Given as goal
-
-abbrev pub decreases-loop-place : goal.decreases-loop-place
-decreases-loop-place l = 6 - l.place
