@@ -3,13 +3,16 @@
 
 usage: docs/places.py [FOLDER]      the counts, and where they are, of this checkout or of another
        docs/places.py --short [..]  the counts alone
+
+A place is kept where a comment `Kept:` stands in its item, the lines between two empty ones, or in the file's first; such a comment that
+speaks of the casts of this file keeps all of these. Beside each count stands how many of the places are kept.
 """
 
 import re
 import sys
 from collections import defaultdict
 from pathlib import Path
-from typing import Dict, Iterator, List, NamedTuple, Tuple
+from typing import Dict, Iterator, List, NamedTuple, Set, Tuple
 
 ROOT = Path(__file__).resolve().parent.parent
 
@@ -18,12 +21,15 @@ class Place(NamedTuple):
     file: str
     line: int
     text: str
+    kept: bool
 
 
 class Source(NamedTuple):
     file: str
     text: str  # as it stands
     code: str  # without comments, as many lines
+    kept: Set[int]  # the lines of the items that are kept
+    casts_kept: bool
 
 
 class Function(NamedTuple):
@@ -40,12 +46,36 @@ def sources(root: Path) -> List[Source]:
     for path in sorted((root / "crates").glob("*/src/**/*.rt")):
         text = path.read_text()
         code = re.sub(r"(?m)^(\s*)//.*$", r"\1", text)
-        found.append(Source(str(path.relative_to(root)), text, code))
+        found.append(Source(str(path.relative_to(root)), text, code, kept_lines(text), CASTS_KEPT.search(text) is not None))
     return found
 
 
+CASTS_KEPT = re.compile(r"// Kept:.*\bcasts? (?:of|in) this file")
+
+
+def kept_lines(text: str) -> Set[int]:
+    kept: Set[int] = set()
+    start = 1
+    for item in text.split("\n\n"):
+        end = start + item.count("\n") + 1
+        if re.search(r"// Kept:(?!.*\bcasts? (?:of|in) this file)", item):
+            if start == 1:
+                return set(range(1, text.count("\n") + 2))
+            kept |= set(range(start, end))
+        start = end + 1
+    return kept
+
+
 def place(source: Source, start: int, text: str) -> Place:
-    return Place(source.file, source.code.count("\n", 0, start) + 1, " ".join(text.split())[:90])
+    line = source.code.count("\n", 0, start + len(text) - len(text.lstrip())) + 1
+    return Place(source.file, line, " ".join(text.split())[:90], line in source.kept)
+
+
+def loops(all_sources: List[Source]) -> List[Place]:
+    """The words `while` and `loop` outside of texts."""
+    text = re.compile(r'b?"(?:\\.|[^"\\])*"')
+    bare = [s._replace(code=text.sub(lambda m: re.sub(r"[^\n]", " ", m[0]), s.code)) for s in all_sources]
+    return matches(bare, r"\b(?:while|loop)\b")
 
 
 def matches(all_sources: List[Source], pattern: str, in_files: str = "") -> List[Place]:
@@ -221,6 +251,12 @@ def crowded(all_sources: List[Source]) -> List[Place]:
     ]
 
 
+def casts(all_sources: List[Source]) -> List[Place]:
+    file_kept = {source.file for source in all_sources if source.casts_kept}
+    found = matches(all_sources, r"\bas (?:u8|u16|u32|u64|usize|i32|i64)\b")
+    return [cast._replace(kept=cast.kept or cast.file in file_kept) for cast in found]
+
+
 def repeated_facts(all_sources: List[Source]) -> List[Place]:
     """The conjuncts of `requires` that three or more functions share, each place of them."""
     facts: Dict[str, List[Place]] = defaultdict(list)
@@ -242,10 +278,10 @@ POINTS = [
     ("1", "values that stand for none or for trouble", sentinels),
     ("1", "functions that answer told trouble by a bool or a number", troubles),
     ("2", "functions alike but for names, numbers and texts", twins),
-    ("3", "while and loop", lambda s: matches(s, r"\b(?:while|loop)\b")),
+    ("3", "while and loop", loops),
     ("4", "numbers taken apart or put together by hand", lambda s: matches(s, r"% 256\)? as u8|/ 256\)? as u8|256 \* \(")),
     ("4", "comparisons by hand", lambda s: matches(s, r"\bfn (?:same|is_same\w*|same_\w+|less|more|lower|higher|first_byte|is_digit|begins)\b")),
-    ("4", "casts", lambda s: matches(s, r"\bas (?:u8|u16|u32|u64|usize|i32|i64)\b")),
+    ("4", "casts", casts),
     ("5", "facts that three or more functions require", repeated_facts),
     ("5", "functions of six parameters or more", crowded),
     ("6", "a buffer and where to go on in it", lambda s: matches(s, r"\bout: &mut \[u8\]|\bbuffer: &mut \[u8\]")),
@@ -263,10 +299,11 @@ def main(arguments: List[str]) -> None:
     all_sources = sources(Path(folders[0]) if folders else ROOT)
     for point, what, count in POINTS:
         found = count(all_sources)
-        print(f"point {point}: {len(found):4}  {what}")
+        kept = sum(where.kept for where in found)
+        print(f"point {point}: {len(found):4} {kept:4} kept  {what}")
         if not short:
             for where in found:
-                print(f"    {where.file}:{where.line}: {where.text}")
+                print(f"    {where.file}:{where.line}: {where.text}{' (kept)' if where.kept else ''}")
 
 
 if __name__ == "__main__":
