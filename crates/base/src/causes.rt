@@ -1,5 +1,5 @@
 // The causes of refusals, each with what is told beside it. Made from causes.txt by causes.py.
-ghost use Rattle.std.specs.Prelude.{◌≡◌, ◌^◌, ◌<◌};
+ghost use Rattle.std.specs.Prelude.{◌≡◌};
 ghost use Rattle.base.specs.Numbers.{number_of, month_of, beside_of, NamesCause};
 
 use std::fmt;
@@ -85,6 +85,7 @@ impl Cause {
     }
 
     // The month that is told beside the number; 0 where none is.
+    // Kept: no Option, since what C gets has 0 where none is told: each of its conversions would add `unwrap_or(0)`.
     pub fn month(self) -> u16
         ensures { result ≡ month_of self }
     {
@@ -95,6 +96,7 @@ impl Cause {
     }
 
     // The month or the place that is told beside the number; 0 where none is.
+    // Kept: no Option, for the same reason.
     pub fn beside(self) -> u32
         ensures { result ≡ beside_of self }
     {
@@ -113,6 +115,7 @@ impl TryFrom<u32> for Cause {
     ghost try_from_gives = { NamesCause };
 
     // What is told beside a cause, no number tells.
+    // Kept: a number is matched, since here it becomes a cause.
     fn try_from(number: u32) -> Result<Cause, NoCause> {
         match number {
             11 => Ok(Cause::CalendarLength),

@@ -20,6 +20,7 @@ pub struct Calendar<'a> {
 }
 
 // The answer of the calendar's check as C gets it: the cause's number, or 0, and the month that cause 13 names.
+// Kept: C has no Result, so a number says whether there is a month beside it.
 #[repr(C)]
 #[derive(Drop)]
 pub struct Checked {
@@ -48,7 +49,7 @@ impl From<Result<Calendar<'_>, Cause>> for Checked {
 pub fn has_session(calendar: &[u8], day: u16) -> bool
     ensures { result ≡ session calendar.now day }
 {
-    match calendar.get((day / 8) as usize) {
+    match calendar.get(usize::from(day / 8)) {
         Some(byte) => (byte >> (day % 8)) % 2 == 1,
         None => false,
     }

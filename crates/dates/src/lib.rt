@@ -119,7 +119,8 @@ pub fn month_of(day: u16) -> u16
     requires { day < day_count }
     ensures { result ≡ month_of day }
 {
-    let mut month = (day as u32 * 2 / 61) as u16;
+    // As if each two months had 61 days, the first of them 31.
+    let mut month = day / 61 * 2 + day % 61 / 31;
     // Kept: a `for` would need an end, which no day reaches.
     while first_day(month + 1) <= day {
         month += 1;

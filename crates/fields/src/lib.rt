@@ -7,6 +7,7 @@ ghost use Rattle.fields.specs.Reading.{contents_of};
 use base::Cause;
 
 // The tags: a day, a series.
+// Kept: no enum, since any byte may stand in a tag's place, and one that is neither is told as a place is, not as a tag.
 pub const DAY_TAG: u8 = 1;
 
 pub const SERIES_TAG: u8 = 2;
@@ -32,6 +33,7 @@ pub struct Filed {
 }
 
 // What C gets of a file that was read: the cause's number, or 0, the day and the number of series; beside 31 the place in `day`.
+// Kept: C has no Result, so a number says what stands beside it.
 #[repr(C)]
 #[derive(Drop)]
 pub struct Contents {

@@ -128,12 +128,12 @@ module _ (t : Tier) (close j : ℕ) (o : OnGrid t j)
       (nearest_is t close)
 
 -- ---- the code's number: whole steps from the beginning of the close's band
-pub round_down : (height step : ℕ) → 2 * (height % step) < step → Rounded height step (height / step)
+round_down : (height step : ℕ) → 2 * (height % step) < step → Rounded height step (height / step)
 round_down height step h =
     let e = div-add-mod height step in
     record { reached = omega arith; short = omega arith }
 
-pub round_up : (height step : ℕ) → 1 ≤ step → step ≤ 2 * (height % step) → Rounded height step (height / step + 1)
+round_up : (height step : ℕ) → 1 ≤ step → step ≤ 2 * (height % step) → Rounded height step (height / step + 1)
 round_up height step p h =
     let e = div-add-mod height step in
     let l = mod-lt height p in

@@ -2,7 +2,6 @@
 -- Assumes nothing.
 use Rattle.std.specs.Prelude.{◌≡◌, true, false, ℕ, Result, MatchResult}
 use Rattle.base.specs.declared.causes.Cause.{Cause}
-use Rattle.base.specs.declared.causes.Cause.TheVariants as Cause
 use Rattle.grid.specs.Grid.{close_taken}
 use Rattle.grid.specs.declared.closes.Close.{Close}
 

@@ -52,6 +52,7 @@ pub fn stride_of(tier: Tier) -> u16
     }
 }
 
+// Kept: an enum of the three bands would be made from the number by these same ranges, and then be matched again.
 pub fn price_at(number: u16) -> u16
     requires { number ≤ top_number }
     ensures { result ≡ price number }
@@ -64,26 +65,27 @@ pub fn price_at(number: u16) -> u16
 }
 
 // How many steps lead to a height, counted from a number on, where these are whole.
-fn whole_steps(from: u16, height: u32, step: u32) -> Option<u16>
+fn whole_steps(from: u16, height: u16, step: u16) -> Option<u16>
     requires { (from ≤ 148) × (height ≤ 8975) × (1 ≤ step) }
     ensures { result ≡ cond (eqb (height % step) 0) (Some (from + height / step)) None }
 {
     if height % step == 0 {
-        Some(from + (height / step) as u16)
+        Some(from + height / step)
     } else {
         None
     }
 }
 
 // The number of a price, where grid N has it.
+// Kept: the ranges are matched, as at `price_at`.
 pub fn number_of(price: u32) -> Option<u16>
     ensures { result ≡ some_number price }
 {
-    match price {
+    match u16::try_from(price).ok()? {
         0 => None,
-        1..480 => whole_steps(0, price, 5),
-        480..1000 => whole_steps(96, price - 480, 10),
-        1000..=9975 => whole_steps(148, price - 1000, 25),
+        price @ 1..480 => whole_steps(0, price, 5),
+        price @ 480..1000 => whole_steps(96, price - 480, 10),
+        price @ 1000..=9975 => whole_steps(148, price - 1000, 25),
         _ => None,
     }
 }
@@ -104,11 +106,12 @@ pub fn close_taken(close: u32) -> bool
 }
 
 // How many steps come nearest to a height; halfway, the higher number.
-fn rounded(height: u32, step: u32) -> u32
-    requires { (height ≤ highest_close) × (1 ≤ step) × (step ≤ 10000) }
+fn rounded(height: u32, step: u32) -> u16
+    requires { (height ≤ highest_close) × (500 ≤ step) × (step ≤ 10000) }
     ensures { Rounded height step result }
 {
-    let below = height / step;
+    // Kept: `as`, since `try_from` would need an answer for more steps than 65,535, and a close has 1,909 at most.
+    let below = (height / step) as u16;
     if 2 * (height % step) < step {
         below
     } else {
@@ -121,12 +124,13 @@ fn rounded(height: u32, step: u32) -> u32
 pub fn nearest_number(tier: Tier, close: Close) -> u16
     ensures { NearestNumber tier close.hundredths result }
 {
-    let stride = stride_of(tier) as u32;
+    let number = stride_of(tier);
+    let stride = u32::from(number);
     let close = close.hundredths;
     match close {
-        0..48000 => (stride * rounded(close, 500 * stride)) as u16,
-        48000..100000 => (96 + stride * rounded(close - 48000, 1000 * stride)) as u16,
-        _ => (148 + stride * rounded(close - 100000, 2500 * stride)) as u16,
+        0..48000 => number * rounded(close, 500 * stride),
+        48000..100000 => 96 + number * rounded(close - 48000, 1000 * stride),
+        _ => 148 + number * rounded(close - 100000, 2500 * stride),
     }
 }
 

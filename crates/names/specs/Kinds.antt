@@ -1,6 +1,6 @@
 -- The two types of a series, and their numbers.
 -- Assumes nothing.
-use Rattle.std.specs.Prelude.{◌≡◌, ◌<◌, ℕ, Result, Ok, Err, MatchResult}
+use Rattle.std.specs.Prelude.{◌≡◌, ◌<◌, ℕ, Result, MatchResult}
 use Rattle.base.specs.declared.causes.Cause.{Cause}
 use Rattle.base.specs.declared.causes.Cause.TheVariants.{NameSeries}
 use Rattle.names.specs.declared.Kind.{Kind}

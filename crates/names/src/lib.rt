@@ -40,6 +40,7 @@ impl TryFrom<u32> for Kind {
 
     ghost try_from_gives = { KindOf };
 
+    // Kept: a number is matched, since here it becomes a type.
     fn try_from(number: u32) -> Result<Kind, Cause> {
         match number {
             0 => Ok(Kind::Call),
@@ -58,6 +59,7 @@ pub struct Named {
 }
 
 // What C gets of a name that was read: the cause's number, or 0, and the series; beside 29 the place in `month`.
+// Kept: C has no Result, so a number says what stands beside it.
 #[repr(C)]
 #[derive(Drop)]
 pub struct Series {
@@ -95,10 +97,11 @@ impl From<Result<Named, Cause>> for Series {
 fn no_series(month: u32, kind: Kind, price: u32) -> bool
     ensures { result ≡ no_series month (kind_number kind) price }
 {
-    month >= dates::MONTHS as u32 || !grid::on_grid(Tier::N, price)
+    month >= u32::from(dates::MONTHS) || !grid::on_grid(Tier::N, price)
 }
 
 // The last decimal digit of a number, in ASCII.
+// Kept: the casts of this file, of a rest or a place below 24: `try_from` would need an answer for more, which is proved not to come.
 fn digit(number: u32) -> u8
     ensures { result ≡ 48 + number % 10 }
 {
@@ -111,12 +114,9 @@ pub fn put(name: &mut [u8], month: u32, kind: Kind, price: u32)
     ensures { name.new ≡ name_of month (kind_number kind) price }
 {
     let year = month / 12;
-    name.copy_from_slice(&[
-        b'O',
-        b'W',
-        b'2',
-        b'0',
-        b'A' + (12 * kind.number() as u32 + month % 12) as u8,
+    name[..PREFIX.len()].copy_from_slice(&PREFIX);
+    name[PREFIX.len()..].copy_from_slice(&[
+        b'A' + (12 * u32::from(kind.number()) + month % 12) as u8,
         digit(year / 10),
         digit(year),
         digit(price / 1000),
@@ -143,6 +143,7 @@ pub fn write(name: &mut [u8], month: u32, kind: u32, price: u32) -> Result<(), C
 }
 
 // The prefix, a letter from A to X, six digits.
+// Kept: an enum of the three parts would be made from the place by these same ranges, and then be matched again.
 pub fn can_stand(place: usize, byte: u8) -> bool
     ensures { result ≡ can_stand place byte }
 {
@@ -170,7 +171,7 @@ fn pair(tens: u8, ones: u8) -> u16
     requires { (within 48 57 tens ≡ true) × (within 48 57 ones ≡ true) }
     ensures { (result ≡ value_from 0 (tens ∷ ones ∷ [])) × (result ≤ 99) }
 {
-    10 * (tens - b'0') as u16 + (ones - b'0') as u16
+    10 * u16::from(tens - b'0') + u16::from(ones - b'0')
 }
 
 // The series of which a name's bytes tell, where each can stand.
@@ -178,7 +179,7 @@ fn told(name: &[u8; LENGTH]) -> Named
     requires { name_length ≤ first_in (misplaced name.now) 0 name_length }
     ensures { (result.month ≡ month_read name.now) × (kind_number result.kind ≡ kind_read name.now) × (result.price ≡ price_read name.now) }
 {
-    let letter = (name[4] - b'A') as u16;
+    let letter = u16::from(name[4] - b'A');
     Named {
         month: 12 * pair(name[5], name[6]) + letter % 12,
         kind: if letter < 12 { Kind::Call } else { Kind::Put },
@@ -197,7 +198,7 @@ pub fn read(name: &[u8]) -> Result<Named, Cause>
         return Err(Cause::NameByte(place as u16));
     }
     let named = told(name);
-    if no_series(named.month as u32, named.kind, named.price as u32) {
+    if no_series(u32::from(named.month), named.kind, u32::from(named.price)) {
         return Err(Cause::NameSeries);
     }
     Ok(named)

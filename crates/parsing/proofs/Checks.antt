@@ -8,7 +8,7 @@ use native.Mathlib.Nat.{add-zero, zero-add}
 use native.Mathlib.Omega.{arith}
 use lib.Dec.{T, ltb, leb}
 use lib.ListN.{length, get_or, take, drop, length-drop, drop_of_length-le}
-use lib.Seq.{get_or-drop, get_or-take, drop-drop, take-take, length-take-le}
+use lib.Seq.{get_or-take, drop-drop, take-take, length-take-le}
 use borrow.Author.Count.{below_more}
 use borrow.Author.Tests.{lt-ltb, le-ltb, le-leb, ltb-true, leb-true, eqb-true, not-true, not-false}
 use Rattle.std.specs.Prelude.{None}
@@ -77,9 +77,6 @@ outside field j = not (between j (get_or field j 0))
 -- the first n bytes of the field were tested
 abbrev pub Tested : List ℕ → ℕ → Bool → Type 0
 Tested field n right = ((j : ℕ) → j < n → get_or field j 0 < 256) × (right ≡ not (some_in (outside field) 0 n))
-
-pub tested_none : (field : List ℕ) → Tested field 0 true
-tested_none field = (λ j h. absurd (omega arith), rw (some-empty (outside field) 0 0 (omega arith)) refl)
 
 one_more : (right some low high : Bool) → right ≡ not some → ((right && low) && high) ≡ not (not (low && high) || some)
 one_more right false true true e = rw e refl
@@ -183,7 +180,6 @@ pub record Walked (file : List ℕ) (day at least series : ℕ) : Type 0 where
   pub least-most : least ≤ 24000000
   pub series-most : series ≤ least
   pub at_is : at ≡ 5 + 15 * series
-  pub at_inside : at ≤ length file
   pub told : checked_of (file_read file) ≡ tell day series (series_from (length file - series) at last (drop at file))
 
 -- every name is above none
@@ -213,7 +209,6 @@ walk_begins file day whole e h =
       least-most = omega arith;
       series-most = omega arith;
       at_is = refl;
-      at_inside = day_inside file whole;
       told = rw (all, e) (day-told file whole (rw e at h));
     }
 
@@ -289,7 +284,6 @@ module _ {file : List ℕ} {day at least series : ℕ} (walked : Walked file day
               least-most = omega arith;
               series-most = omega (arith, walked.series-most);
               at_is = omega (arith, walked.at_is, content_is);
-              at_inside = omega (arith, field_inside, content_is);
               told =
                   told-next ∙ ap (tell day series) (step-taken (length file - (series + 1)) at walked.last rest some none (taken_is ∙ rw (← key-is) h))
                   ∙ tell-behind day series _ _ ∙ rw (name_is, size_is, drop-drop (3 + content) at file);

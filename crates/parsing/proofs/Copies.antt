@@ -79,9 +79,6 @@ module _ (file start : List ℕ) (accepted : is_faulty (file_read file) ≡ fals
   abbrev fs : List Field
   fs = series_in (file_read file)
 
-  pub copy_begins : Copied file start start 0
-  copy_begins = record { some = omega arith; bytes = refl }
-
   pub content_inside : (i : ℕ) → i < length fs → 5 + 15 * i + 3 + 12 ≤ length file
   content_inside i h =
       let l = listed file accepted in

@@ -41,13 +41,14 @@ fn content_stands(tag: u8, place: usize, byte: u8) -> bool
 }
 
 // Whether a byte can stand at a place of a field with this tag; the first field is the day's.
+// Kept: an enum of a field's parts would be made from the place by these same numbers, and then be matched again.
 fn can_stand(first: bool, tag: u8, place: usize, byte: u8) -> bool
     ensures { result ≡ byte_stands first tag place byte }
 {
     match place {
         0 if first => byte == DAY_TAG,
         0 => byte == SERIES_TAG,
-        1 => byte as usize == content_size(tag),
+        1 => usize::from(byte) == content_size(tag),
         2 => byte == 0,
         _ => content_stands(tag, place - CONTENT, byte),
     }
@@ -97,9 +98,9 @@ fn key_of(name: &[u8]) -> u32
     requires { (length name.now ≡ name_length) × (name_length ≤ first_in (misplaced name.now) 0 name_length) }
     ensures { (result ≡ key_of name.now) × (result < 24000000) }
 {
-    let mut key = (name[4] - b'A') as u32;
+    let mut key = u32::from(name[4] - b'A');
     for place in 5..names::LENGTH {
-        key = 10 * key + (name[place] - b'0') as u32;
+        key = 10 * key + u32::from(name[place] - b'0');
     }
     key
 }
@@ -113,6 +114,7 @@ fn is_taken(least: u32, key: u32) -> bool
 
 // The check of a file of any bytes: its day and how many series it has, or 31 and the place. Keys ascend, so that there are
 // fewer series than keys, and each place has room in 32 bits however long the bytes are.
+// Kept: the casts of this file, of places and of the number of series: `try_from` would need an answer for more than 32 bits hold.
 pub fn check(file: &[u8]) -> Result<Filed, Cause>
     ensures { contents_of result ≡ checked_of (file_read file.now) }
 {
@@ -142,7 +144,7 @@ pub fn check(file: &[u8]) -> Result<Filed, Cause>
         series += 1;
     }
     Ok(Filed {
-        day: day as u32,
+        day: u32::from(day),
         series,
     })
 }

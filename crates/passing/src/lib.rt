@@ -14,7 +14,7 @@ use dates::MONTHS;
 // A calendar's last byte, of whose bits three lie after the last day.
 const LAST_BYTE: usize = 4565;
 
-// The least byte, 255 where there is none. A fold does not leave early, so the compiler vectorises it.
+// The least byte, from 255 on, which no byte is above. A fold does not leave early, so the compiler vectorises it.
 fn least_byte(bytes: &[u8]) -> u8
     ensures { result ≡ least_of 255 bytes.now }
 {
@@ -27,7 +27,7 @@ fn recent_session(calendar: &[u8], last: u16) -> bool
     requires { (16 ≤ last) × (last / 16 * 2 + 1 < length calendar.now) }
     ensures { result ≡ some_in (session calendar.now) (last - 14) (last + 1) }
 {
-    let at = (last / 16 * 2) as usize - 2;
+    let at = usize::from(last / 16 * 2) - 2;
     let days = u32::from_le_bytes([
         calendar[at],
         calendar[at + 1],
@@ -45,7 +45,7 @@ fn first_quiet(calendar: &[u8; CALENDAR_LENGTH], fridays: &[u16; 1200]) -> Optio
         (λ month. (month < month_count) × (first_lacking calendar.now ≡ first_in (lacks calendar.now) month month_count)) }
 {
     for month in 0..MONTHS {
-        if !recent_session(calendar, fridays[month as usize]) {
+        if !recent_session(calendar, fridays[usize::from(month)]) {
             return Some(month);
         }
     }
@@ -53,30 +53,25 @@ fn first_quiet(calendar: &[u8; CALENDAR_LENGTH], fridays: &[u16; 1200]) -> Optio
 }
 
 // The first month that has no session from its first day to its third Friday, if there is one.
-// Both scans, of months and of days, are left at that month. The last 15 of a month's days are looked at together, the
-// days before them one by one.
+// The last 15 of a month's days are looked at together, the days before them one by one.
 fn scan_months(calendar: &[u8; CALENDAR_LENGTH], fridays: &[u16; 1200]) -> Option<u16>
     requires { ThirdFridays fridays.now }
     ensures { result ≡ found_in (lacks calendar.now) 0 month_count }
 {
     let from = first_quiet(calendar, fridays)?;
-    let mut lacking = None;
     'months: for month in from..MONTHS {
-        let last = fridays[month as usize];
+        let last = fridays[usize::from(month)];
         if recent_session(calendar, last) {
             continue;
         }
-        for day in dates::first_day(month)..last - 13 {
-            if day + 14 == last {
-                lacking = Some(month);
-                break 'months;
-            }
+        for day in dates::first_day(month)..last - 14 {
             if calendar::has_session(calendar, day) {
                 continue 'months;
             }
         }
+        return Some(month);
     }
-    lacking
+    None
 }
 
 // The first month that has no session from its first day to its third Friday, if there is one.

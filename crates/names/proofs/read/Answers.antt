@@ -27,7 +27,7 @@ returns-then-no_series c =
     let long : length name ≡ name_length = rw whole.same whole.long in
     let placed = none_found (misplaced name) 0 name_length c.in_default-first_misplaced.ensures in
     let told = c.told-named.ensures in
-    let tested : no_series (month_read name) (kind_read name) (price_read name) ≡ c.no_series.result = rw (← told.0, ← told.1, ← told.2) (sym c.no_series.ensures) in
+    let tested : no_series (month_read name) (kind_read name) (price_read name) ≡ c.no_series.result = rw (← told.0, ← told.1, ← told.2, ← c.from.ensures, ← c.from-2.ensures) (sym c.no_series.ensures) in
     rw (← whole.same, read_28 name long placed (tested ∙ c.if-no_series.true))
 
 pub returns : goal.returns
@@ -38,5 +38,5 @@ returns c =
     let long : length name ≡ name_length = rw whole.same whole.long in
     let placed = none_found (misplaced name) 0 name_length c.in_default-first_misplaced.ensures in
     let told = c.told-named.ensures in
-    let tested : no_series (month_read name) (kind_read name) (price_read name) ≡ c.no_series.result = rw (← told.0, ← told.1, ← told.2) (sym c.no_series.ensures) in
+    let tested : no_series (month_read name) (kind_read name) (price_read name) ≡ c.no_series.result = rw (← told.0, ← told.1, ← told.2, ← c.from.ensures, ← c.from-2.ensures) (sym c.no_series.ensures) in
     rw (← whole.same, read_0 name long placed (tested ∙ c.if-no_series.false), told.0, told.1, told.2)

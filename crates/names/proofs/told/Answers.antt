@@ -1,6 +1,6 @@
 -- `names::told` meets its contract: the digits are read two by two.
 -- Assumes nothing.
-use Rattle.std.proofs.Common.{◌≡◌, refl, arith, length}
+use Rattle.std.proofs.Common.{◌≡◌, arith, length}
 use Rattle.base.proofs.ListLaws.{within_l, within_r}
 use Rattle.names.specs.Kinds.{kind_number}
 use Rattle.names.specs.Names.{kind_read}
@@ -8,8 +8,8 @@ use Rattle.names.proofs.ReadLaws.{is-letter, is_digit, month_pair, price_pairs}
 use Rattle.names.proofs.told.Goals as goal
 use Rattle.names.proofs.told.Goals.{then-letter-lt12, else-letter-lt12}
 
-pub overflow_sub-letter : goal.overflow_sub-letter
-overflow_sub-letter c = within_l _ _ _ (is-letter c.args.name.now c.requires)
+pub overflow_sub-name : goal.overflow_sub-name
+overflow_sub-name c = within_l _ _ _ (is-letter c.args.name.now c.requires)
 
 pub pair-requires : goal.pair-requires
 pair-requires c = (is_digit c.args.name.now c.requires 5 (omega arith) (omega arith), is_digit c.args.name.now c.requires 6 (omega arith) (omega arith))
@@ -28,7 +28,7 @@ returns c =
     let most = within_r _ _ _ (is-letter name c.requires) in
     let kind : kind_number c.if-letter-lt12.result ≡ kind_read name =
     elim c.if-letter-lt12.branch [
-      | then-letter-lt12 w ↦ rw w.result-is (omega arith)
-      | else-letter-lt12 w ↦ rw w.result-is (omega (arith, most))
+      | then-letter-lt12 w ↦ rw w.result-is (omega (arith, c.from-letter.ensures))
+      | else-letter-lt12 w ↦ rw w.result-is (omega (arith, most, c.from-letter.ensures))
     ] in
-    (rw (c.pair.ensures.0, month_pair name long), kind, rw (c.pair-2.ensures.0, c.pair-3.ensures.0, price_pairs name long))
+    (rw (c.pair.ensures.0, c.from-letter.ensures, month_pair name long), kind, rw (c.pair-2.ensures.0, c.pair-3.ensures.0, price_pairs name long))

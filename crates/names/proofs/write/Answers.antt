@@ -1,6 +1,6 @@
 -- `names::write` meets its contract: each return by the causes that led there.
 -- Assumes nothing.
-use Rattle.std.proofs.Common.{sym, arith, ◌∙◌}
+use Rattle.std.proofs.Common.{sym, ◌∙◌}
 use Rattle.std.proofs.lemmas.Result.{err_from_is_err_and}
 use Rattle.names.specs.Names.{written}
 use Rattle.names.proofs.RefusalLaws.{no_kind, write_27, write_28, write_0}

@@ -15,7 +15,7 @@ returns-in-0-2 c = let zero : c.args.place ≡ 0 = omega arith in rw (zero, c.if
 
 pub returns-in-1 : goal.returns-in-1
 unfolding byte_stands
-returns-in-1 c = let one : c.args.place ≡ 1 = omega arith in rw (one, c.content_size.ensures.0)
+returns-in-1 c = let one : c.args.place ≡ 1 = omega arith in rw (one, c.from.ensures, c.content_size.ensures.0)
 
 pub returns-in-2 : goal.returns-in-2
 unfolding byte_stands

@@ -1,7 +1,7 @@
 -- `parsing::check` meets its contract. The loop keeps an equation: what is told of the rest, behind so many series, is what is told of
 -- the whole file.
 -- Assumes nothing.
-use Rattle.std.proofs.Common.{◌≡◌, ◌∙◌, ◌+◌, ◌-◌, ◌≤◌, ℕ, true, false, sym, length, take, drop, arith}
+use Rattle.std.proofs.Common.{◌∙◌, ◌+◌, ◌-◌, ◌≤◌, ℕ, true, false, sym, length, take, drop, arith}
 use lib.ListN.{length-drop}
 use Rattle.base.specs.Search.{first_in}
 use Rattle.base.proofs.SearchLaws.{at_found, none_found}
@@ -69,4 +69,4 @@ loop-at-preserved c =
     key (sym c.is_taken.ensures ∙ c.if-not-is_taken.false)
 
 pub returns : goal.returns
-returns c = sym (walk_ends c.loop-at.invariant (omega arith))
+returns c = rw c.from.ensures (sym (walk_ends c.loop-at.invariant (omega arith)))

@@ -2,11 +2,8 @@
 -- Assumes nothing.
 use Rattle.std.proofs.Common.{◌≡◌, ◌+◌, ◌-◌, ◌*◌, ◌<◌, length, arith}
 use Rattle.fields.specs.Reading.{file_read, series_in}
-use Rattle.parsing.proofs.Copies.{copy_begins, content_inside, copy-on, copy_ends}
+use Rattle.parsing.proofs.Copies.{content_inside, copy-on, copy_ends}
 use Rattle.parsing.proofs.copy_list.Goals as goal
-
-pub loop-i-init : goal.loop-i-init
-loop-i-init c = copy_begins c.args.file.now c.args.list.now c.requires.0
 
 pub slice_bounds-copy_from_slice-end-in-loop-i : goal.slice_bounds-copy_from_slice-end-in-loop-i
 slice_bounds-copy_from_slice-end-in-loop-i c =

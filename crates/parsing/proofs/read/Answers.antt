@@ -2,7 +2,6 @@
 -- Assumes nothing.
 use Rattle.std.proofs.Common.{◌≡◌, ◌∙◌, false, sym, ap, length, arith, rules}
 use Rattle.std.proofs.lemmas.Result.{err_from_is_err_and}
-use Rattle.base.specs.Numbers.{number_of}
 use Rattle.base.proofs.NumberLaws.{number-from}
 use Rattle.fields.specs.declared.Contents.{Contents}
 use Rattle.fields.specs.Reading.{file_read, is_faulty, series_in, checked_of}

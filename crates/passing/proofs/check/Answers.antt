@@ -1,8 +1,7 @@
 -- `passing::check` meets its contract: each return rewrites with the tests that led there. The array that is looked at holds the
 -- calendar's bytes.
 -- Assumes nothing.
-use Rattle.std.proofs.Common.{◌≡◌, ◌≤◌, ℕ, sym, ap, length, arith}
-use lib.ListN.{get_or}
+use Rattle.std.proofs.Common.{length}
 use borrow.Author.Tests.{ne_eqb, eq-eqb, lt-ltb}
 use Rattle.base.specs.Causes.{cause, first_cause}
 use Rattle.base.proofs.SearchLaws.{at_found, none_found}

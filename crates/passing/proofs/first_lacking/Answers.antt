@@ -1,6 +1,6 @@
 -- `passing::first_lacking` meets its contract: where no byte is zero each month has its session, else the scan finds the first that has none.
 -- Assumes nothing.
-use Rattle.std.proofs.Common.{sym, length, arith}
+use Rattle.std.proofs.Common.{sym, arith}
 use Rattle.base.proofs.SearchLaws.{found-none}
 use Rattle.dates.specs.Months.{month_count}
 use Rattle.calendar.specs.Calendar.{lacks, first_lacking}

@@ -1,6 +1,6 @@
 -- `passing::least_byte` meets its contract: the least of the bytes passed goes along.
 -- Assumes nothing.
-use Rattle.std.proofs.Common.{◌≡◌, ℕ, min, fold, rules}
+use Rattle.std.proofs.Common.{◌≡◌, min, fold, rules}
 use Rattle.base.proofs.ListLaws.{least_fold}
 use Rattle.passing.proofs.least_byte.Goals as goal
 

@@ -2,7 +2,6 @@
 -- Assumes nothing.
 use mathlib.Core.Path.{◌≡◌}
 use mathlib.Core.Bool.{not}
-use Rattle.std.specs.Prelude.{None}
 use Prim.Native.Nat.{◌+◌, ◌-◌, ◌≤◌}
 use Rattle.base.specs.Search.{first_in, some_in}
 use Rattle.dates.specs.Months.{month_count, third_friday}
@@ -11,7 +10,7 @@ use Rattle.passing.proofs.scan_months.Given as goal
 
 abbrev pub invariant-loop-day : goal.invariant-loop-day
 invariant-loop-day l =
-    (l.lacking ≡ None) × (l.last ≡ third_friday l.month) × (l.day + 14 ≤ l.last) × (lacks l.calendar l.month ≡ not (some_in (session l.calendar) l.day (third_friday l.month - 14)))
+    (l.last ≡ third_friday l.month) × (l.day + 14 ≤ l.last) × (lacks l.calendar l.month ≡ not (some_in (session l.calendar) l.day (third_friday l.month - 14)))
 
 abbrev pub invariant-months : goal.invariant-months
-invariant-months l = (l.lacking ≡ None) × (first_lacking l.calendar ≡ first_in (lacks l.calendar) l.month month_count)
+invariant-months l = first_lacking l.calendar ≡ first_in (lacks l.calendar) l.month month_count
