@@ -39,6 +39,7 @@ pub struct Part {
 
 // What a start or a session answers C: its number, and where that is 0 the rows added, the rows removed and the row count;
 // beside 13 the month in `added`.
+// Kept: C has no Result, so a number and what stands beside it are one struct.
 #[repr(C)]
 #[derive(Drop)]
 pub struct Listed {
@@ -70,6 +71,7 @@ impl From<Result<Totals, Cause>> for Listed {
 }
 
 // What an announcement answers C: its number, and where that is 0 how many wait; beside 13 the month.
+// Kept: C has no Result, so a number and what stands beside it are one struct.
 #[repr(C)]
 #[derive(Drop)]
 pub struct Told {
@@ -92,6 +94,7 @@ impl From<Result<u16, Cause>> for Told {
 }
 
 // What the rows call answers C: its number, and where that is 0 the place of the month's rows; a refusal has zeros beside it.
+// Kept: C has no Result, so a number and what stands beside it are one struct.
 #[repr(C)]
 #[derive(Drop)]
 pub struct Place {

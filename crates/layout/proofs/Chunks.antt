@@ -1,6 +1,7 @@
 -- Rows and announcements as pieces of the bytes in which they stand.
 -- Assumes nothing.
-use Rattle.std.proofs.Common.{◌≡◌, refl, ◌<◌, ℕ, zero, suc, ◌+◌, ◌*◌, ◌/◌, ◌≤◌, List, map, length, take, drop, arith, mul-suc}
+use Rattle.std.proofs.Common.{◌≡◌, refl, ◌∙◌, ◌<◌, ℕ, zero, suc, ◌+◌, ◌*◌, ◌/◌, ◌≤◌, List, map, length, take, drop, arith, mul-suc}
+use Rattle.std.proofs.Math.Nat.{mul-div_cancel_left}
 use Rattle.std.proofs.lemmas.List.{take-take, drop-take, get_or-take, length-take-le, length-drop}
 use Rattle.std.specs.Simd.{first_chunks}
 use Rattle.base.specs.Words.{at16}
@@ -14,12 +15,12 @@ chunks_within n (suc k) m xs =
     rw (e, take-take n (n + (n * k + m)) xs (omega arith), drop-take n (n * k + m) xs, chunks_within n k m (drop n xs))
 
 -- as many as a part has that is cut to their size
-pub chunks_cut : (n k m at : ℕ) (bs : List ℕ) → m ≡ n * k → ((l : ℕ) → l ≡ n * k → l / n ≡ k) → at + m ≤ length bs
-    → first_chunks n (length (take m (drop at bs)) / n) (take m (drop at bs)) ≡ first_chunks n k (drop at bs)
-chunks_cut n k m at bs e divides h =
-    let l : length (take m (drop at bs)) ≡ m = length-take-le m (drop at bs) (simp length-drop (omega arith)) in
+pub chunks_cut : (n k m at : ℕ) (bs : List ℕ) → 0 < n → m ≡ n * k → at + m ≤ length bs
+    → (length (take m (drop at bs)) / n ≡ k) × (first_chunks n k (take m (drop at bs)) ≡ first_chunks n k (drop at bs))
+chunks_cut n k m at bs p e h =
+    let l : length (take m (drop at bs)) ≡ n * k = length-take-le m (drop at bs) (simp length-drop (omega arith)) ∙ e in
     let f : m ≡ n * k + 0 = omega arith in
-    rw (divides (length (take m (drop at bs))) (omega arith), f) (chunks_within n k 0 (drop at bs))
+    (rw (l, mul-div_cancel_left k p), rw f (chunks_within n k 0 (drop at bs)))
 
 -- two bytes of a piece
 pub at16-take : (n i : ℕ) (xs : List ℕ) → i + 1 < n → at16 (take n xs) i ≡ at16 xs i

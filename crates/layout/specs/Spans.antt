@@ -1,11 +1,10 @@
--- The six spans of a register as they are taken up, lowest and highest price of each live month, and announcements from a byte on.
+-- The spans of a register's months, lowest and highest price of each, and announcements from a byte on.
 -- Contracts of leaves cite this file.
 -- Assumes nothing.
-use Rattle.std.specs.Prelude.{Bool, cond, not, ◌&&◌, List, [], ◌∷◌, ℕ, eqb, replicate, drop}
-use Rattle.calendar.specs.Live.{live_months}
-use Rattle.rules.specs.Rulebook.{first_at, rules}
+use Rattle.std.specs.Prelude.{Bool, cond, not, ◌&&◌, List, [], ◌∷◌, ℕ, eqb, drop}
+use Rattle.rules.specs.Rulebook.{rules}
 use Rattle.layout.specs.Register.{Body, span_low, span_high}
-use Rattle.layout.specs.Bytes.{moment_of, body_of, all_zero, read_places}
+use Rattle.layout.specs.Bytes.{all_zero, read_places}
 use Rattle.layout.specs.Opening.{stands}
 
 -- a register that is not empty, keeps the layout and is well formed under a calendar
@@ -16,17 +15,6 @@ runs_well calendar bs = not (all_zero bs) && stands (rules calendar) bs
 unfoldable pub spans_of : Body → List ℕ → List (List ℕ)
 spans_of b [] = []
 spans_of b (m ∷ ms) = (span_low b m ∷ span_high b m ∷ []) ∷ spans_of b ms
-
--- zeros, which no grid has
-abbrev pub no_spans : List (List ℕ)
-no_spans = replicate 6 (0 ∷ 0 ∷ [])
-
--- the six spans of a register that runs and is well formed; of any other, zeros
-unfoldable pub standing_spans : List ℕ → List ℕ → List (List ℕ)
-standing_spans calendar bs =
-    cond (runs_well calendar bs)
-    (spans_of (body_of bs) (live_months (first_at calendar (moment_of bs))))
-    no_spans
 
 -- the span of a month among those of some months; zeros where it is none of them
 unfoldable pub span_in : List ℕ → List (List ℕ) → ℕ → List ℕ

@@ -2,10 +2,10 @@
 // running register, its bytes written and read, when it is well formed.
 #![tactic(auto)]
 
-ghost use Rattle.std.specs.Prelude.{◌≡◌, ◌+◌, ◌*◌, ◌≤◌, length, drop};
+ghost use Rattle.std.specs.Prelude.{◌≡◌, ◌+◌, ◌*◌, ◌<◌, ◌≤◌, length, drop};
 ghost use Rattle.std.specs.Simd.{first_chunks};
 ghost use Rattle.layout.specs.Bytes.{places_from, rows_from, all_zero};
-ghost use Rattle.layout.specs.Origins.{origin_code};
+ghost use Rattle.layout.specs.Origins.{origin_code, OriginOf};
 
 // The register's length in bytes.
 // Kept: a register is lent as a slice, its length a `requires`. From `&mut [u8]` to `&mut [u8; REGISTER_LENGTH]` leads `try_from` alone,
@@ -78,6 +78,27 @@ impl Origin {
     }
 }
 
+// A byte that no origin has.
+#[derive(Clone, Copy, PartialEq, Eq, Debug)]
+pub struct NoOrigin;
+
+impl TryFrom<u8> for Origin {
+    type Error = NoOrigin;
+
+    ghost try_from_gives = { OriginOf };
+
+    fn try_from(byte: u8) -> Result<Origin, NoOrigin> {
+        match byte {
+            1 => Ok(Origin::Live),
+            2 => Ok(Origin::Within),
+            3 => Ok(Origin::Close),
+            4 => Ok(Origin::Announced),
+            5 => Ok(Origin::Start),
+            _ => Err(NoOrigin),
+        }
+    }
+}
+
 // Whether all bytes are zero. The greatest byte tells: a fold does not leave early, so the compiler vectorises it.
 pub fn is_zero(bytes: &[u8]) -> bool
     ensures { result ≡ all_zero bytes.now }
@@ -88,15 +109,24 @@ pub fn is_zero(bytes: &[u8]) -> bool
         == 0
 }
 
+// Pieces of N bytes of a register, as many as are asked for, that stand side by side from a byte on.
+fn pieces<const N: usize>(register: &[u8], from: usize, count: usize) -> &[[u8; N]]
+    requires { (0 < N) × (from + N * count ≤ length register.now) }
+    ensures bytes { result.now ≡ first_chunks N count (drop from register.now) }
+    ensures count { length result.now ≡ count }
+{
+    let end = from + N * count;
+    let (pieces, _) = register[from..end].as_chunks();
+    pieces
+}
+
 // The rows of a register, as many as are asked for.
 pub fn rows(register: &[u8], count: usize) -> &[[u8; ROW_LENGTH]]
     requires { rows_from + 8 * count ≤ length register.now }
     ensures bytes { result.now ≡ first_chunks 8 count (drop rows_from register.now) }
     ensures count { length result.now ≡ count }
 {
-    let end = ROWS + ROW_LENGTH * count;
-    let (rows, _) = register[ROWS..end].as_chunks();
-    rows
+    pieces(register, ROWS, count)
 }
 
 // The announcements that wait in a register, as many as are asked for.
@@ -105,7 +135,5 @@ pub fn places(register: &[u8], count: usize) -> &[[u8; PLACE_LENGTH]]
     ensures bytes { result.now ≡ first_chunks 4 count (drop places_from register.now) }
     ensures count { length result.now ≡ count }
 {
-    let end = PLACES + PLACE_LENGTH * count;
-    let (places, _) = register[PLACES..end].as_chunks();
-    places
+    pieces(register, PLACES, count)
 }

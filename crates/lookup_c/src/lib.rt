@@ -1,4 +1,5 @@
 // The questions of `lookup` for C: the archive with which the host tests compare every answer.
+// Kept: the exports are alike by nature. C links each by its name, and each makes a number of none.
 #![tactic(auto)]
 
 ghost use Rattle.std.specs.Prelude.{◌≡◌, ◌&&◌, eqb, leb, ltb, get_or};
@@ -11,9 +12,14 @@ ghost use Rattle.lookup.specs.Lookup.{or_outside, some_if, yes, tier_number, tie
 
 use base::Tier;
 use grid::Strikes;
-use lookup::{Date, OUTSIDE};
+use lookup::Date;
+
+// The answer to a question outside its range: no day, month, tier or price has this number.
+// Kept: C has no Option.
+const OUTSIDE: u32 = 65535;
 
 // The tiers N, M and F are numbered 0, 1 and 2.
+// Kept: `From<Tier>` of `u32` and `TryFrom<u32>` of `Tier` may stand in `base` alone, where no tier has a number.
 #[tactic(auto, unfolding(lookup::specs::Lookup::tier_number))]
 fn tier_number(tier: Tier) -> u32
     ensures { result ≡ tier_number tier }
@@ -66,6 +72,7 @@ pub extern "C" fn lookup_month_of(day: u32) -> u32
     lookup::month_of(day).unwrap_or(OUTSIDE)
 }
 
+#[tactic(auto, unfolding(lookup::specs::Lookup::date_of))]
 #[unsafe(no_mangle)]
 pub extern "C" fn lookup_date(day: u32) -> Date
     ensures { result ≡ date_of day }
@@ -81,7 +88,7 @@ pub extern "C" fn lookup_date(day: u32) -> Date
 pub extern "C" fn lookup_has_session(calendar: &[u8], day: u32) -> u32
     ensures { result ≡ yes (leb day 65535 && session calendar.now day) }
 {
-    lookup::has_session(calendar, day) as u32
+    u32::from(lookup::has_session(calendar, day))
 }
 
 #[unsafe(no_mangle)]
@@ -118,40 +125,32 @@ pub extern "C" fn lookup_live_month(first: u32, place: u32) -> u32
 pub extern "C" fn lookup_tier_of(first: u32, month: u32) -> u32
     ensures { result ≡ or_outside (leb first month_count && leb month 65535) (tier_number (tier_of first month)) }
 {
-    match lookup::tier_of(first, month) {
-        Some(tier) => tier_number(tier),
-        None => OUTSIDE,
-    }
+    lookup::tier_of(first, month).map_or(OUTSIDE, tier_number)
 }
 
 #[unsafe(no_mangle)]
 pub extern "C" fn lookup_on_grid(tier: u32, price: u32) -> u32
     ensures { result ≡ yes (leb tier 2 && elem price (grid_of (tier_numbered tier))) }
 {
-    match tier_numbered(tier) {
-        Some(tier) => lookup::on_grid(tier, price) as u32,
-        None => 0,
-    }
+    u32::from(tier_numbered(tier).is_some_and(|tier| lookup::on_grid(tier, price)))
 }
 
 #[unsafe(no_mangle)]
 pub extern "C" fn lookup_nearest(tier: u32, close: u32) -> u32
     ensures { result ≡ or_outside (leb tier 2 && close_taken close) (nearest close (grid_of (tier_numbered tier))) }
 {
-    match tier_numbered(tier) {
-        Some(tier) => lookup::nearest(tier, close).unwrap_or(OUTSIDE),
-        None => OUTSIDE,
-    }
+    tier_numbered(tier)
+        .and_then(|tier| lookup::nearest(tier, close))
+        .unwrap_or(OUTSIDE)
 }
 
 // The lowest and the highest price that a close requires.
+#[tactic(auto, unfolding(lookup::specs::Lookup::required_at))]
 #[unsafe(no_mangle)]
 pub extern "C" fn lookup_required(tier: u32, close: u32) -> Strikes
     ensures { result ≡ required_at tier close }
 {
-    let none = Strikes { low: 0, high: 0 };
-    match tier_numbered(tier) {
-        Some(tier) => lookup::required(tier, close).unwrap_or(none),
-        None => none,
-    }
+    tier_numbered(tier)
+        .and_then(|tier| lookup::required(tier, close))
+        .unwrap_or(Strikes { low: 0, high: 0 })
 }
