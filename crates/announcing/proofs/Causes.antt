@@ -20,7 +20,7 @@ use Rattle.calls.specs.declared.Call.TheVariants.{Announce}
 use Rattle.rules.proofs.RulebookLaws.{laws}
 use Rattle.layout.specs.Register.{most_waiting, Body, running, waiting_of, announce_causes}
 use Rattle.layout.specs.Bytes.{register_length, moment_of, body_of, bytes_of}
-use Rattle.layout.specs.Spans.{spans_of, places_at, span_in}
+use Rattle.layout.specs.Spans.{spans_of, span_in}
 use Rattle.register.specs.Check.{causes_at}
 use Rattle.layout.proofs.ByteLaws.{places_count}
 use Rattle.layout.proofs.Running.{Running}
@@ -46,11 +46,11 @@ module _ (cal bs : List ℕ) (m p : ℕ) where
   waiting-count = places_count (get_or bs 1 0) (drop 8 bs)
 
   -- what the leaves found, put together
-  pub gathered : Passes cal → f ≤ last_first_month → (first next₁ n : ℕ) (spans : List (List ℕ)) (waits : Bool) → first ≡ f → next₁ ≡ first_at cal (next (rules cal) (moment_of bs))
-      → waits ≡ elem p (waiting_of m (places_at bs 8 (get_or bs 1 0))) → spans ≡ spans_of b (live_months f) → n ≡ causes_at first next₁ (span_in (live_months first) spans m) waits m p
+  pub gathered : Passes cal → (first next₁ n : ℕ) (spans : List (List ℕ)) (waits : Bool) → first ≤ last_first_month → first ≡ f → next₁ ≡ first_at cal (next (rules cal) (moment_of bs))
+      → waits ≡ elem p (waiting_of m b.waiting) → spans ≡ spans_of b (live_months f) → n ≡ causes_at first next₁ (span_in (live_months first) spans m) waits m p
       → n ≡ first_cause (announce_causes (rules cal) b b.waiting m p)
   unfolding body_of
-  gathered passes live first next₁ n spans waits fi nx w s e = rw (nx, w, s, fi) at e ∙ causes_are cal passes b live b.waiting m p
+  gathered passes first next₁ n spans waits live fi nx w s e = rw (nx, w, s, fi) at e ∙ causes_are cal passes b (rw fi at live) b.waiting m p
 
   module _ (n : ℕ) (e : n ≡ first_cause (announce_causes (rules cal) b b.waiting m p)) where
     pub own-refusal : (n ≡ 0 → ⊥) → n ≡ number (rules cal) (Announce m p) (running b)

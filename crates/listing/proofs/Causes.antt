@@ -5,19 +5,18 @@ use mathlib.Core.Bool.{true, false, not, ◌&&◌}
 use mathlib.Core.List.{List}
 use Prim.Native.Nat.{ℕ, ◌≤◌, ◌<◌}
 use lib.Dec.{eqb, ltb}
-use borrow.Author.Tests.{eqb-true, eq-eqb, ne_eqb, lt-ltb, le-ltb, ltb-false, not-false}
+use borrow.Author.Tests.{eqb-true, eq-eqb, ne_eqb, lt-ltb, le-ltb, not-false}
 use Rattle.base.specs.Causes.{cause}
 use Rattle.base.proofs.CauseLaws.{none_of, not-cause, caused, passed, alone}
 use Rattle.dates.specs.Months.{day_count}
-use Rattle.calendar.specs.Calendar.{session, Passes, next_session}
+use Rattle.calendar.specs.Calendar.{session, next_session}
 use Rattle.grid.specs.Grid.{close_taken}
-use Rattle.rules.specs.Rules.{Moment, last_first_month}
+use Rattle.rules.specs.Rules.{last_first_month}
 use Rattle.rules.specs.Rulebook.{begun, moved, first_at, rules}
 use Rattle.calls.specs.declared.Call.TheVariants.{Start, Session}
 use Rattle.layout.specs.Register.{Body, empty, running}
 use Rattle.calls.specs.Listing.{number}
 use Rattle.listing.specs.Refusals.{listing_cause}
-use Rattle.relisting.specs.Writing.{Taken}
 
 -- ---- causes 20 and 21
 module _ (first close : ℕ) where
@@ -29,17 +28,6 @@ module _ (first close : ℕ) where
   unfolding listing_cause
   in_time h = passed (ltb last_first_month first) 20 _ (le-ltb last_first_month first h) ∙ alone _
 
--- a moment and a close without these causes are taken
-none_late : (cal : List ℕ) (x : Moment) (close : ℕ) → Passes cal → listing_cause (first_at cal x) close ≡ 0 → Taken cal x close
-unfolding listing_cause
-none_late cal x close p z =
-    let c = none_of _ _ z in
-    record {
-      passes = p;
-      live = ltb-false last_first_month (first_at cal x) (not-cause (ltb last_first_month (first_at cal x)) 19 c.0);
-      close-taken = not-false (close_taken close) (not-cause (not (close_taken close)) 20 (none_of _ _ c.1).0);
-    }
-
 module _ (cal : List ℕ) (day close : ℕ) where
   -- ---- a start's own causes
   pub no_start : (ltb day day_count && session cal day) ≡ false → number (rules cal) (Start day close) empty ≡ 18
@@ -49,10 +37,6 @@ module _ (cal : List ℕ) (day close : ℕ) where
   pub start_goes : (ltb day day_count && session cal day) ≡ true → number (rules cal) (Start day close) empty ≡ listing_cause (first_at cal (begun day)) close
   unfolding number rules listing_cause
   start_goes h = passed (not (ltb day day_count && session cal day)) 18 _ (ap not h)
-
-  pub start-taken : Passes cal → number (rules cal) (Start day close) empty ≡ 0 → Taken cal (begun day) close
-  unfolding number rules listing_cause
-  start-taken p z = none_late cal (begun day) close p (none_of _ _ z).1
 
   -- ---- a session's own causes
   module _ (b : Body) where
@@ -64,8 +48,6 @@ module _ (cal : List ℕ) (day close : ℕ) where
     unfolding number rules listing_cause
     session_goes h = passed (not (eqb day (next_session cal b.at.day))) 19 _ (ap not (eq-eqb day (next_session cal b.at.day) h))
 
-    pub session-taken : Passes cal → number (rules cal) (Session day close) (running b) ≡ 0 → Taken cal (moved b.at day) close × (day ≡ next_session cal b.at.day)
-    unfolding number rules listing_cause
-    session-taken p z =
-        let c = none_of _ _ z in
-        (none_late cal (moved b.at day) close p c.1, eqb-true day (next_session cal b.at.day) (not-false _ (not-cause (not (eqb day (next_session cal b.at.day))) 18 c.0)))
+    pub session-next : number (rules cal) (Session day close) (running b) ≡ 0 → day ≡ next_session cal b.at.day
+    unfolding number rules
+    session-next z = eqb-true day (next_session cal b.at.day) (not-false _ (not-cause (not (eqb day (next_session cal b.at.day))) 18 (none_of _ _ z).0))

@@ -37,6 +37,7 @@ impl From<Result<u32, Cause>> for Written {
 }
 
 // Writes the file of a register and answers its length. An entry point: it takes any bytes.
+// Kept: the cast. No file is longer than `MOST_LENGTH`, and `try_from` would need an answer for one that is.
 pub fn write(calendar: &[u8], register: &[u8], file: &mut [u8]) -> Result<u32, Cause>
     ensures value { written_of result ≡ file_at calendar.now register.now file.old }
     ensures file_after { file.new ≡ file_after (rules calendar.now) register.now file.old }
@@ -45,7 +46,7 @@ pub fn write(calendar: &[u8], register: &[u8], file: &mut [u8]) -> Result<u32, C
         return Err(Cause::Empty);
     };
     let day = word(register, DAY);
-    let rows = layout::rows(register, word(register, COUNT) as usize);
+    let rows = layout::rows(register, usize::from(word(register, COUNT)));
     let length = DAY_FIELD + 2 * SERIES_FIELD * count_new(rows, day);
     if file.len() < length {
         return Err(Cause::OutputLength);

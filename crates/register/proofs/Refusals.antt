@@ -3,7 +3,6 @@
 use mathlib.Core.Path.{◌≡◌, refl}
 use mathlib.Core.Bool.{Bool, true, false, false≢true, true≢false}
 use mathlib.Core.List.{List}
-use mathlib.Core.Logic.{◌⊎◌, ⊎_elim}
 use Prim.Native.Nat.{ℕ, ◌≤◌, ◌<◌}
 use native.Mathlib.Omega.{arith}
 use lib.Dec.{leb}
@@ -15,7 +14,7 @@ use lib.ListN.{get_or}
 use borrow.Author.Tests.{lt-ltb, le-ltb, le-leb, lt-leb}
 use Rattle.base.specs.Lists.{elem, within}
 use Rattle.base.specs.Causes.{cause, first_cause}
-use Rattle.base.proofs.Tests.{or_r, and_no}
+use Rattle.base.proofs.Tests.{by_le, or_r, and_no}
 use Rattle.calendar.specs.Live.{live_months, tier_of}
 use Rattle.grid.specs.Grid.{grid_of}
 use Rattle.rules.specs.Rules.{last_first_month}
@@ -60,10 +59,9 @@ module _ (first next : ℕ) (span : List ℕ) (waits : Bool) (m p : ℕ) where
           unfolding causes_at cause first_cause within
           inside a b = rw (le-ltb last_first_month next l, e, le-ltb m next h, g, le-leb (get_or span 0 0) p a, le-leb p (get_or span 1 0) b)
 
-          pub outside : waits ≡ false → (get_or span 0 0 ≤ p × get_or span 1 0 < p) ⊎ (p < get_or span 0 0) → causes_at first next span waits m p ≡ 0
+          pub outside : waits ≡ false → (get_or span 0 0 ≤ p → get_or span 1 0 < p) → causes_at first next span waits m p ≡ 0
           unfolding causes_at cause first_cause within
-          outside w o =
-              ⊎_elim
-              (λ a. rw (le-ltb last_first_month next l, e, le-ltb m next h, g, and_no (leb (get_or span 0 0) p) _ (lt-leb p (get_or span 1 0) a.1), w))
+          outside w above =
+              by_le (get_or span 0 0) p
+              (λ a. rw (le-ltb last_first_month next l, e, le-ltb m next h, g, and_no (leb (get_or span 0 0) p) _ (lt-leb p (get_or span 1 0) (above a)), w))
               (λ a. rw (le-ltb last_first_month next l, e, le-ltb m next h, g, lt-leb (get_or span 0 0) p a, w))
-              o

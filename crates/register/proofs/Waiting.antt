@@ -1,18 +1,19 @@
--- The waiting announcements: places read one by one, live months and their spans, and an announcement's causes tried downwards.
+-- The waiting announcements: places one by one, live months and their spans, and an announcement's causes tried downwards.
 -- Assumes nothing.
 use mathlib.Core.Path.{◌≡◌, refl, sym, ◌∙◌}
-use mathlib.Core.Bool.{true, false, ◌||◌}
-use mathlib.Core.List.{List, [], ◌∷◌, ◌++◌}
-use Prim.Native.Nat.{ℕ, zero, suc, ◌+◌, ◌-◌, ◌*◌, ◌≤◌, ◌<◌}
-use native.Mathlib.Numerals.{add-one}
+use mathlib.Core.Bool.{Bool, true, false, ◌&&◌, ◌||◌}
+use mathlib.Core.List.{List, [], ◌∷◌, ◌++◌, map}
+use Prim.Native.Nat.{ℕ, suc, ◌+◌, ◌≤◌, ◌<◌}
 use native.Mathlib.Omega.{arith}
 use lib.Dec.{eqb, leb, ltb}
-use lib.ListN.{length, get_or}
+use lib.ListN.{length, get_or, take, drop}
 use borrow.Author.Tests.{eqb-true, eq-eqb, ne_eqb, ltb-true, lt-ltb, le-ltb}
 use Rattle.std.specs.Prelude.{Option, Some, None, ◌==◌, position}
-use Rattle.std.specs.List.{position_or_len}
+use Rattle.std.specs.List.{list_any, position_or_len}
+use Rattle.std.proofs.lemmas.List.{take_more, drop_more, drop_all, map-append}
 use Rattle.base.specs.Lists.{elem}
 use Rattle.base.specs.Causes.{cause, first_cause}
+use Rattle.base.specs.Words.{at16}
 use Rattle.base.proofs.Tests.{by_bool, by_le}
 use Rattle.calendar.specs.Calendar.{Passes}
 use Rattle.calendar.specs.Live.{live_months}
@@ -21,30 +22,19 @@ use Rattle.rules.specs.Rulebook.{rules, expiry_at, first_at, tier_at}
 use Rattle.rules.proofs.RulebookLaws.{live_le}
 use Rattle.rules.proofs.NextLaws.{expired-next}
 use Rattle.layout.specs.Register.{Body, waiting_of, announce_causes, waiting_ok}
-use Rattle.base.specs.Words.{at16}
-use Rattle.layout.specs.Spans.{spans_of, places_at, span_in}
-use Rattle.register.specs.Check.{causes_at}
-use Rattle.base.proofs.Loops.{start_of, next_of}
-use Rattle.layout.proofs.ByteLaws.{places_none, places_some}
+use Rattle.layout.specs.Bytes.{place_of}
+use Rattle.layout.specs.Spans.{spans_of, span_in}
 use Rattle.layout.proofs.SpanLaws.{span-in}
+use Rattle.register.specs.Check.{causes_at}
 
 -- ---- whether a price waits for a month
-module _ (bs : List ℕ) (at n m p : ℕ) where
-  pub waits_end : n ≤ 0 → elem p (waiting_of m (places_at bs at n)) ≡ false
-  unfolding waiting_of elem
-  waits_end h = rw (places_none bs at n h)
-
-  pub waits-here : 0 < n → m ≡ at16 bs at → p ≡ at16 bs (at + 2) → elem p (waiting_of m (places_at bs at n)) ≡ true
-  unfolding waiting_of elem
-  waits-here h e g = rw (places_some bs at n h, eq-eqb m (at16 bs at) e, eq-eqb p (at16 bs (at + 2)) g)
-
-  pub waits-next : 0 < n → (m ≡ at16 bs at → p ≡ at16 bs (at + 2) → ⊥)
-      → elem p (waiting_of m (places_at bs at n)) ≡ elem p (waiting_of m (places_at bs (at + 4) (n - 1)))
-  unfolding waiting_of elem
-  waits-next h other =
-      by_bool (eqb m (at16 bs at))
-      (λ e. rw (places_some bs at n h, e, ne_eqb p (at16 bs (at + 2)) (other (eqb-true m (at16 bs at) e))))
-      (λ e. rw (places_some bs at n h, e))
+pub waits_any : (m p : ℕ) (xs : List (List ℕ)) → list_any (λ (x : List ℕ). eqb m (at16 x 0) && eqb p (at16 x 2)) xs ≡ elem p (waiting_of m (map place_of xs))
+unfolding waiting_of elem
+waits_any m p [] = refl
+waits_any m p (x ∷ xs) =
+    by_bool (eqb m (at16 x 0))
+    (λ e. by_bool (eqb p (at16 x 2)) (λ g. rw (e, g)) (λ g. rw (e, g) (waits_any m p xs)))
+    (λ e. rw e (waits_any m p xs))
 
 waits-append : (m p : ℕ) (xs ys : List (ℕ × ℕ)) → elem p (waiting_of m (xs ++ ys)) ≡ (elem p (waiting_of m xs) || elem p (waiting_of m ys))
 unfolding waiting_of elem
@@ -61,20 +51,6 @@ module _ (m p : ℕ) (xs ys : List (ℕ × ℕ)) where
 
   pub waits_rest : elem p (waiting_of m xs) ≡ false → elem p (waiting_of m ys) ≡ elem p (waiting_of m (xs ++ ys))
   waits_rest h = sym (waits-append m p xs ys ∙ rw h)
-
--- one place more, at the end
-snoc : (bs : List ℕ) (i at : ℕ) → places_at bs at (suc i) ≡ places_at bs at i ++ ((at16 bs (at + 4 * i), at16 bs (at + 4 * i + 2)) ∷ [])
-snoc bs zero at =
-    let e : at + 4 * 0 ≡ at = omega arith in
-    rw (places_some bs at 1 (omega arith), places_none bs at 0 (omega arith), places_none bs (at + 4) 0 (omega arith), e)
-snoc bs (suc i) at =
-    let e : at + 4 * suc i ≡ at + 4 + 4 * i = omega arith in
-    let f : suc (suc i) - 1 ≡ suc i = omega arith in
-    let g : suc i - 1 ≡ i = omega arith in
-    rw (places_some bs at (suc (suc i)) (omega arith), f, places_some bs at (suc i) (omega arith), g, snoc bs i (at + 4), e)
-
-places_snoc : (bs : List ℕ) (at i : ℕ) → places_at bs at (i + 1) ≡ places_at bs at i ++ ((at16 bs (at + 4 * i), at16 bs (at + 4 * i + 2)) ∷ [])
-places_snoc bs at i = rw (add-one i) (snoc bs i at)
 
 -- ---- where a month stands among some, and its span
 abbrev place : ℕ → List ℕ → ℕ
@@ -104,9 +80,19 @@ span_place m (n ∷ ns) (s ∷ ss) h k =
     let f : 1 + place m ns ≡ suc (place m ns) = omega arith in
     rw (e, f) (span_place m ns ss (omega arith) (omega arith)))
 
--- its span stands there among six; it stands nowhere where it is not live
+month_place : (m : ℕ) (ms : List ℕ) → place m ms < length ms → get_or ms (place m ms) 0 ≡ m
+month_place m [] h = absurd (omega arith)
+month_place m (n ∷ ns) h =
+    by_bool (eqb m n)
+    (λ e. rw e (sym (eqb-true m n e)))
+    (λ e.
+    let h' : 1 + place m ns < suc (length ns) = rw e at h in
+    let f : 1 + place m ns ≡ suc (place m ns) = omega arith in
+    rw (e, f) (month_place m ns (omega arith)))
+
+-- it and its span stand there among six; it stands nowhere where it is not live
 abbrev pub Places : ℕ → List ℕ → Option ℕ → Type 0
-Places m live (Some i) = (i < 6) × (elem m live ≡ true) × ((spans : List (List ℕ)) → length spans ≡ 6 → span_in live spans m ≡ get_or spans i [])
+Places m live (Some i) = (i < 6) × (elem m live ≡ true) × (get_or live i 0 ≡ m) × ((spans : List (List ℕ)) → length spans ≡ 6 → span_in live spans m ≡ get_or spans i [])
 Places m live None = elem m live ≡ false
 
 pub places : (m : ℕ) (ms : List ℕ) → length ms ≡ 6 → (o : Option ℕ) → o ≡ position (λ n. m == n) ms → Places m ms o
@@ -119,7 +105,7 @@ places m ms six (Some i) h =
     let z : Some i ≡ Some (place m ms) = rw e at h in
     let q : i ≡ place m ms = cc in
     let l = ltb-true (place m ms) (length ms) e in
-    (omega arith, sym (place-elem m ms) ∙ e, λ ss k. rw q (span_place m ms ss l (omega arith))))
+    (omega arith, sym (place-elem m ms) ∙ e, rw q (month_place m ms l), λ ss k. rw q (span_place m ms ss l (omega arith))))
     (λ e. let z : Some i ≡ None = rw e at h in absurd (cc))
 
 -- ---- the causes by numbers are the causes on the register
@@ -139,27 +125,25 @@ module _ (cal : List ℕ) (passes : Passes cal) (b : Body) (live : first_at cal 
       (λ e. by_bool (ltb last_first_month (first_at cal (next (rules cal) b.at))) (λ g. rw g) (λ g. rw (g, e)))
 
 -- ---- one waiting announcement after the other
-module _ (R : Rules) (b : Body) (bs : List ℕ) (at n : ℕ) where
+module _ (R : Rules) (b : Body) (xs : List (List ℕ)) (i : ℕ) where
   -- the causes of the i-th beside the others
-  abbrev pub beside : ℕ → ℕ
-  beside i = first_cause (announce_causes R b (places_at bs at i ++ places_at bs (at + 4 * i + 4) (n - i - 1)) (at16 bs (at + 4 * i)) (at16 bs (at + 4 * i + 2)))
+  abbrev pub beside : ℕ
+  beside = first_cause (announce_causes R b (map place_of (take i xs) ++ map place_of (drop (i + 1) xs)) (at16 (get_or xs i []) 0) (at16 (get_or xs i []) 2))
 
-  pub waiting-start : waiting_ok R b [] (places_at bs at n) ≡ waiting_ok R b (places_at bs at 0) (places_at bs (at + 4 * 0) (n - 0))
-  waiting-start = start_of (λ n p. waiting_ok R b [] (places_at bs p n)) 4 n at ∙ rw (places_none bs at 0 (omega arith))
+  -- those left stand beside those passed
+  abbrev pub left_ok : Bool
+  left_ok = waiting_ok R b (map place_of (take i xs)) (map place_of (drop i xs))
 
-  module _ (i : ℕ) where
-    pub waiting_end : n ≤ i → waiting_ok R b (places_at bs at i) (places_at bs (at + 4 * i) (n - i)) ≡ true
+  pub waiting_end : length xs ≤ i → left_ok ≡ true
+  unfolding waiting_ok
+  waiting_end h = rw (drop_all i xs h)
+
+  module _ (h : i < length xs) where
+    pub waiting_stop : (beside ≡ 0 → ⊥) → left_ok ≡ false
     unfolding waiting_ok
-    waiting_end h = rw (places_none bs (at + 4 * i) (n - i) (omega arith))
+    waiting_stop e = rw (drop_more xs i [] h, ne_eqb beside 0 e)
 
-    module _ (h : i < n) where
-      pub waiting_stop : (beside i ≡ 0 → ⊥) → waiting_ok R b (places_at bs at i) (places_at bs (at + 4 * i) (n - i)) ≡ false
-      unfolding waiting_ok
-      waiting_stop e = rw (places_some bs (at + 4 * i) (n - i) (omega arith), ne_eqb (beside i) 0 e)
-
-      pub waiting-next : beside i ≡ 0
-          → waiting_ok R b (places_at bs at i) (places_at bs (at + 4 * i) (n - i)) ≡ waiting_ok R b (places_at bs at (i + 1)) (places_at bs (at + 4 * (i + 1)) (n - (i + 1)))
-      unfolding waiting_ok
-      waiting-next e =
-          rw (places_some bs (at + 4 * i) (n - i) (omega arith), eq-eqb (beside i) 0 e, ← places_snoc bs at i)
-          (next_of (λ n p. waiting_ok R b (places_at bs at (i + 1)) (places_at bs p n)) 4 n at i)
+pub waiting-next : (R : Rules) (b : Body) (xs : List (List ℕ)) (i : ℕ) → i < length xs → beside R b xs i ≡ 0 → left_ok R b xs i ≡ left_ok R b xs (i + 1)
+unfolding waiting_ok
+waiting-next R b xs i h e =
+    rw (drop_more xs i [] h, eq-eqb (beside R b xs i) 0 e, take_more xs i [] h, map-append place_of (take i xs) (get_or xs i [] ∷ []))

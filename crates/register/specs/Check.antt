@@ -1,11 +1,9 @@
 -- How the code checks a register's bytes. Contracts of leaves cite this file.
 -- Assumes nothing.
-use Rattle.std.specs.Prelude.{◌≡◌, Bool, true, false, not, ◌||◌, List, [], ◌∷◌, ℕ, ◌+◌, ◌-◌, ◌*◌, ◌≤◌, Result, Ok, Err, ltb, get_or, take, drop}
+use Rattle.std.specs.Prelude.{◌≡◌, Bool, true, not, ◌||◌, List, [], ◌∷◌, ℕ, ◌+◌, ◌-◌, ◌*◌, ◌≤◌, ltb, get_or, take, drop}
 use Rattle.base.specs.Words.{at16}
 use Rattle.base.specs.Lists.{elem, within}
 use Rattle.base.specs.Causes.{cause, first_cause}
-use Rattle.base.specs.declared.causes.Cause.{Cause}
-use Rattle.base.specs.declared.causes.Cause.TheVariants.{RegisterForm}
 use Rattle.calendar.specs.Live.{live_months, tier_of}
 use Rattle.grid.specs.Grid.{grid_of}
 use Rattle.rules.specs.Rules.{last_first_month}
@@ -46,8 +44,3 @@ pub record Runs (calendar bs : List ℕ) (spans : List (List ℕ)) : Type 0 wher
   pub reads : Reads calendar bs (running (body_of bs))
   pub well : runs_well calendar bs ≡ true
   pub spans_are : spans ≡ spans_of (body_of bs) (live_months (first_at calendar (moment_of bs)))
-
--- any other has no spans, which is cause 15
-abbrev pub Stands : List ℕ → List ℕ → Result (List (List ℕ)) Cause → Type 0
-Stands calendar bs (Ok spans) = Runs calendar bs spans
-Stands calendar bs (Err why) = (runs_well calendar bs ≡ false) × (why ≡ RegisterForm)

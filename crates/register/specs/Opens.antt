@@ -1,14 +1,29 @@
 -- How every call opens: by a cause that every call has, on an empty register, or on one that runs and is well formed.
 -- Assumes nothing.
-use Rattle.std.specs.Prelude.{List, ℕ, Result, Ok, Err}
+use Rattle.std.specs.Prelude.{◌≡◌, false, List, ℕ, Result, Ok, Err}
 use Rattle.base.specs.declared.causes.Cause.{Cause}
+use Rattle.base.specs.declared.causes.Cause.TheVariants.{RegisterForm}
+use Rattle.rules.specs.Rulebook.{first_at}
 use Rattle.layout.specs.Register.{empty}
+use Rattle.layout.specs.Bytes.{moment_of}
 use Rattle.layout.specs.Opening.{Refused, Reads}
+use Rattle.layout.specs.Spans.{runs_well}
 use Rattle.register.specs.Check.{Runs}
+use Rattle.register.specs.declared.Running.{Running}
 use Rattle.register.specs.declared.Opened.{Opened}
-use Rattle.register.specs.declared.Opened.TheVariants.{Empty, Running}
+
+-- what the check finds of a register that runs and is well formed: the calendar, the live months of its day, and their spans
+pub record Finds (calendar bs : List ℕ) (running : Running) : Type 0 where
+  pub runs : Runs calendar bs running.spans
+  pub calendar_is : running.calendar.bytes.now ≡ calendar
+  pub first_is : running.live.first ≡ first_at calendar (moment_of bs)
+
+-- any other is cause 15
+abbrev pub Stands : List ℕ → List ℕ → Result Running Cause → Type 0
+Stands calendar bs (Ok running) = Finds calendar bs running
+Stands calendar bs (Err why) = (runs_well calendar bs ≡ false) × (why ≡ RegisterForm)
 
 abbrev pub Opens : List ℕ → List ℕ → Result Opened Cause → Type 0
-Opens calendar bs (Ok Empty) = Reads calendar bs empty
-Opens calendar bs (Ok (Running spans)) = Runs calendar bs spans
+Opens calendar bs (Ok (Opened.Empty passed)) = Reads calendar bs empty × (passed.bytes.now ≡ calendar)
+Opens calendar bs (Ok (Opened.Running running)) = Finds calendar bs running
 Opens calendar bs (Err why) = (own : ℕ) → Refused calendar bs own why

@@ -1,28 +1,28 @@
 // The check of a register, and how every call opens.
 #![tactic(auto)]
 
-ghost use Rattle.std.specs.Prelude.{◌≡◌, position, ◌==◌, [], ◌++◌, ◌+◌, ◌-◌, ◌*◌, ◌≤◌, ◌<◌, length, get_or};
+ghost use Rattle.std.specs.Prelude.{◌≡◌, ◌&&◌, [], map, ◌≤◌, ◌<◌, length, get_or, eqb};
 ghost use Rattle.base.specs.Lists.{elem};
-ghost use Rattle.dates.specs.Months.{month_count, day_count};
+ghost use Rattle.base.specs.Words.{at16};
+ghost use Rattle.dates.specs.Months.{day_count};
 ghost use Rattle.base.specs.Numbers.{number_in};
-ghost use Rattle.calendar.specs.Calendar.{Passes};
 ghost use Rattle.calendar.specs.Live.{live_months};
-ghost use Rattle.rules.specs.Rules.{next, last_first_month};
+ghost use Rattle.rules.specs.Rules.{next};
 ghost use Rattle.rules.specs.Rulebook.{first_at, rules};
 ghost use Rattle.layout.specs.Register.{most_waiting, waiting_of, waiting_ok};
-ghost use Rattle.layout.specs.Bytes.{register_length, places_from, moment_of, body_of};
-ghost use Rattle.layout.specs.Spans.{spans_of, places_at, span_in};
-ghost use Rattle.register.specs.Check.{Tells, Keeps, causes_at, Stands};
-ghost use Rattle.register.specs.Opens.{Opens};
+ghost use Rattle.layout.specs.Bytes.{register_length, place_of, moment_of, body_of};
+ghost use Rattle.layout.specs.Spans.{spans_of, span_in};
+ghost use Rattle.register.specs.Check.{Tells, Keeps, causes_at};
+ghost use Rattle.register.specs.Opens.{Stands, Opens};
 
 use base::{Cause, word};
 use calendar::Calendar;
 use dates::{DAYS, MONTHS};
 use layout::{
-    COUNT, DAY, MOST_ROWS, MOST_WAITING, PLACE_LENGTH, PLACES, PRICE, REGISTER_LENGTH, ROW_LENGTH,
-    ROWS, STATUS, UNUSED, WAITING,
+    COUNT, DAY, MONTH, MOST_ROWS, MOST_WAITING, PLACE_LENGTH, PLACES, PRICE, REGISTER_LENGTH,
+    ROW_LENGTH, ROWS, STATUS, UNUSED, WAITING,
 };
-use rules::LAST_FIRST_MONTH;
+use rules::LiveMonths;
 
 // Whether the bytes that are neither announcement nor row keep the layout of a running register.
 fn keeps_layout(register: &[u8]) -> bool
@@ -32,7 +32,7 @@ fn keeps_layout(register: &[u8]) -> bool
     if register[STATUS] != 1 {
         return false;
     }
-    let waiting = register[WAITING] as usize;
+    let waiting = usize::from(register[WAITING]);
     if MOST_WAITING < waiting {
         return false;
     }
@@ -42,7 +42,7 @@ fn keeps_layout(register: &[u8]) -> bool
     if register[UNUSED + 1] != 0 {
         return false;
     }
-    let rows = word(register, COUNT) as usize;
+    let rows = usize::from(word(register, COUNT));
     if MOST_ROWS < rows {
         return false;
     }
@@ -54,114 +54,92 @@ fn keeps_layout(register: &[u8]) -> bool
     layout::is_zero(&register[behind..])
 }
 
-// Where a month stands among the six live months; nowhere where it is not live.
-fn live_place(first: u16, month: u32) -> Option<usize>
-    requires { first ≤ last_first_month }
-    ensures { result ≡ position (λ live. month == live) (live_months first) }
-{
-    let months = calendar::live_months(first);
-    months.iter().position(|live| month == u32::from(*live))
-}
-
 // The first live month of the next session; 1,200 where there is none.
-pub fn next_first(calendar: &[u8], register: &[u8]) -> u16
-    requires { Passes calendar.now × (length register.now ≡ register_length) × ((moment_of register.now).day < day_count) }
-    ensures { result ≡ first_at calendar.now (next (rules calendar.now) (moment_of register.now)) }
+pub fn next_first(calendar: Calendar<'_>, register: &[u8]) -> u16
+    requires { (length register.now ≡ register_length) × ((moment_of register.now).day < day_count) }
+    ensures { result ≡ first_at calendar.entry.bytes.now (next (rules calendar.entry.bytes.now) (moment_of register.now)) }
 {
-    let next = calendar::next_session(calendar, word(register, DAY));
+    let next = calendar::next_session(calendar.bytes, word(register, DAY));
     if next < DAYS {
-        calendar::first_live(Calendar { bytes: calendar }, next)
+        calendar::first_live(calendar, next)
     } else {
         MONTHS
     }
 }
 
-// Causes 20 and 22 to 24 of an announcement, tried downwards. `next` is the first live month of the next session.
-pub fn refusal(
-    first: u16,
-    next: u16,
-    spans: [[u16; 2]; 6],
-    waits: bool,
-    month: u32,
-    price: u32,
-) -> Result<(), Cause>
-    requires { (first ≤ last_first_month) × (next ≤ month_count) }
-    ensures { number_in result ≡ causes_at first next (span_in (live_months first) spans month) waits month price }
+// Whether a place has a price of a month.
+fn has(place: &[u8; PLACE_LENGTH], month: u32, price: u32) -> bool
+    ensures { result ≡ (eqb month (at16 place.now 0) && eqb price (at16 place.now 2)) }
 {
-    if LAST_FIRST_MONTH < next {
-        return Err(Cause::TooLate);
-    }
-    let Some(i) = live_place(first, month) else {
-        return Err(Cause::AnnounceMonth);
-    };
-    let live = month as u16;
-    if live < next {
-        return Err(Cause::AnnounceMonth);
-    }
-    if !grid::on_grid(calendar::tier_of(next, live), price) {
-        return Err(Cause::AnnouncePrice);
-    }
-    if waits {
-        return Err(Cause::AnnounceKnown);
-    }
-    let strike = price as u16;
-    let [low, high] = spans[i];
-    if low <= strike && strike <= high {
-        return Err(Cause::AnnounceKnown);
-    }
-    Ok(())
+    month == u32::from(word(place, MONTH)) && price == u32::from(word(place, PRICE))
 }
 
 // Whether a price waits for a month in some of the places.
-pub fn waits(register: &[u8], at: usize, places: usize, month: u32, price: u32) -> bool
-    requires { at + 4 * places ≤ length register.now }
-    ensures { result ≡ elem price (waiting_of month (places_at register.now at places)) }
+pub fn waits(places: &[[u8; PLACE_LENGTH]], month: u32, price: u32) -> bool
+    ensures { result ≡ elem price (waiting_of month (map place_of places.now)) }
 {
-    for i in 0..places {
-        let place = at + PLACE_LENGTH * i;
-        if month == u32::from(word(register, place))
-            && price == u32::from(word(register, place + PRICE))
-        {
-            return true;
+    places.iter().any(|place| has(place, month, price))
+}
+
+// A register that runs and is well formed: its calendar, the live months of its day and their spans.
+#[derive(Clone, Copy)]
+pub struct Running<'a> {
+    pub calendar: Calendar<'a>,
+    pub live: LiveMonths,
+    pub spans: [[u16; 2]; 6],
+}
+
+impl Running<'_> {
+    // Causes 20 and 22 to 24 of an announcement, tried downwards. `next` is the first live month of the next session.
+    pub fn refusal(self, next: u16, waits: bool, month: u32, price: u32) -> Result<(), Cause>
+        ensures { number_in result ≡ causes_at self.entry.live.first next (span_in (live_months self.entry.live.first) self.entry.spans month) waits month price }
+    {
+        let next = LiveMonths::try_from(next)?;
+        let months = self.live.months();
+        let Some(i) = months.iter().position(|live| month == u32::from(*live)) else {
+            return Err(Cause::AnnounceMonth);
+        };
+        let live = months[i];
+        if live < next.first {
+            return Err(Cause::AnnounceMonth);
         }
+        if !grid::on_grid(next.tier(live), price) {
+            return Err(Cause::AnnouncePrice);
+        }
+        if waits {
+            return Err(Cause::AnnounceKnown);
+        }
+        let [low, high] = self.spans[i];
+        if u32::from(low) <= price && price <= u32::from(high) {
+            return Err(Cause::AnnounceKnown);
+        }
+        Ok(())
     }
-    false
 }
 
-// Whether a price waits for a month in a place other than this one.
-fn waits_beside(register: &[u8], places: usize, i: usize, month: u32, price: u32) -> bool
-    requires { (i < places) × (places_from + 4 * places ≤ length register.now) }
-    ensures { result ≡ elem price (waiting_of month (places_at register.now places_from i ++ places_at register.now (places_from + 4 * i + 4) (places - i - 1))) }
+// Whether no waiting announcement would be refused beside the others.
+fn waiting_stands(running: Running<'_>, register: &[u8]) -> bool
+    requires register_len { (length register.now ≡ register_length) × (get_or register.now 1 0 ≤ most_waiting) × ((moment_of register.now).day < day_count) }
+    requires found { (running.live.first ≡ first_at running.calendar.bytes.now (moment_of register.now)) × (running.spans ≡ spans_of (body_of register.now) (live_months running.live.first)) }
+    ensures { result ≡ waiting_ok (rules running.entry.calendar.bytes.now) (body_of register.now) [] (body_of register.now).waiting }
 {
-    let behind = PLACES + PLACE_LENGTH * i + PLACE_LENGTH;
-    waits(register, PLACES, i, month, price)
-        || waits(register, behind, places - i - 1, month, price)
-}
-
-// Whether no waiting announcement would be refused beside the others, where the six spans are those of the register's rows.
-fn waiting_stands(calendar: &[u8], register: &[u8], first: u16, spans: [[u16; 2]; 6]) -> bool
-    requires { Passes calendar.now × (length register.now ≡ register_length) × (get_or register.now 1 0 ≤ most_waiting) × ((moment_of register.now).day < day_count)
-        × (first ≡ first_at calendar.now (moment_of register.now)) × (first ≤ last_first_month) × (spans ≡ spans_of (body_of register.now) (live_months first)) }
-    ensures { result ≡ waiting_ok (rules calendar.now) (body_of register.now) [] (body_of register.now).waiting }
-{
-    let next = next_first(calendar, register);
-    let places = register[WAITING] as usize;
-    for i in 0..places {
-        let at = PLACES + PLACE_LENGTH * i;
-        let month = u32::from(word(register, at));
-        let price = u32::from(word(register, at + PRICE));
-        let beside = waits_beside(register, places, i, month, price);
-        if refusal(first, next, spans, beside, month, price).is_err() {
+    let next = next_first(running.calendar, register);
+    let places = layout::places(register, usize::from(register[WAITING]));
+    for (i, place) in places.iter().enumerate() {
+        let month = u32::from(word(place, MONTH));
+        let price = u32::from(word(place, PRICE));
+        let beside = waits(&places[..i], month, price) || waits(&places[i + 1..], month, price);
+        if running.refusal(next, beside, month, price).is_err() {
             return false;
         }
     }
     true
 }
 
-// The six spans of a register that runs and is well formed.
-fn standing(calendar: &[u8], register: &[u8]) -> Result<[[u16; 2]; 6], Cause>
-    requires { Passes calendar.now × (length register.now ≡ register_length) }
-    ensures { Stands calendar.now register.now result }
+// What the check finds of a register that runs and is well formed.
+fn standing<'a>(calendar: Calendar<'a>, register: &[u8]) -> Result<Running<'a>, Cause>
+    requires { length register.now ≡ register_length }
+    ensures { Stands calendar.entry.bytes.now register.now result }
 {
     if !keeps_layout(register) {
         return Err(Cause::RegisterForm);
@@ -170,38 +148,42 @@ fn standing(calendar: &[u8], register: &[u8]) -> Result<[[u16; 2]; 6], Cause>
     if DAYS <= day {
         return Err(Cause::RegisterForm);
     }
-    if !calendar::has_session(calendar, day) {
+    if !calendar::has_session(calendar.bytes, day) {
         return Err(Cause::RegisterForm);
     }
-    let first = calendar::first_live(Calendar { bytes: calendar }, day);
-    if LAST_FIRST_MONTH < first {
-        return Err(Cause::RegisterForm);
-    }
-    let rows = layout::rows(register, word(register, COUNT) as usize);
-    let Some(spans) = scan::ladders(rows, day, first) else {
+    let Ok(live) = LiveMonths::try_from(calendar::first_live(calendar, day)) else {
         return Err(Cause::RegisterForm);
     };
+    let rows = layout::rows(register, usize::from(word(register, COUNT)));
+    let Some(spans) = scan::ladders(rows, day, live) else {
+        return Err(Cause::RegisterForm);
+    };
+    let running = Running {
+        calendar,
+        live,
+        spans,
+    };
     if register[WAITING] == 0 {
-        return Ok(spans);
+        return Ok(running);
     }
-    if !waiting_stands(calendar, register, first, spans) {
+    if !waiting_stands(running, register) {
         return Err(Cause::RegisterForm);
     }
-    Ok(spans)
+    Ok(running)
 }
 
-// A register that a call can be made on: empty, or one that runs and is well formed, with its six spans.
+// A register that a call can be made on, under a calendar that passed: empty, or one that runs and is well formed.
 #[derive(Clone, Copy)]
-pub enum Opened {
-    Empty,
-    Running([[u16; 2]; 6]),
+pub enum Opened<'a> {
+    Empty(Calendar<'a>),
+    Running(Running<'a>),
 }
 
 // How every call opens: causes 11 to 15.
-pub fn open(calendar: &[u8], register: &[u8]) -> Result<Opened, Cause>
+pub fn open<'a>(calendar: &'a [u8], register: &[u8]) -> Result<Opened<'a>, Cause>
     ensures { Opens calendar.now register.now result }
 {
-    passing::check(calendar)?;
+    let calendar = passing::check(calendar)?;
     if register.len() != REGISTER_LENGTH {
         return Err(Cause::RegisterLength);
     }
@@ -209,7 +191,7 @@ pub fn open(calendar: &[u8], register: &[u8]) -> Result<Opened, Cause>
         return Ok(Opened::Running(standing(calendar, register)?));
     }
     if layout::is_zero(register) {
-        Ok(Opened::Empty)
+        Ok(Opened::Empty(calendar))
     } else {
         Err(Cause::RegisterForm)
     }

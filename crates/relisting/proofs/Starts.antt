@@ -3,19 +3,21 @@
 use mathlib.Core.Path.{◌≡◌, refl, sym, ap, ◌∙◌}
 use mathlib.Core.Bool.{false≢true}
 use mathlib.Core.List.{List, []}
-use Prim.Native.Nat.{ℕ, ◌+◌, ◌≤◌, ◌<◌}
+use Prim.Native.Nat.{ℕ, ◌+◌}
 use native.Mathlib.Omega.{arith}
 use lib.ListN.{length, get_or, replicate}
 use Rattle.base.specs.Lists.{elem}
-use Rattle.base.proofs.ListLaws.{within_l, within_r}
+use Rattle.base.proofs.ListLaws.{within_i}
 use Rattle.base.proofs.Rising.{rises, rises_all}
-use Rattle.dates.specs.Months.{day_count}
+use Rattle.calendar.specs.Calendar.{Passes}
 use Rattle.calendar.specs.Live.{live_months, tier_of}
-use Rattle.grid.specs.Grid.{required_low, required_high, lowest_close, highest_close, close_taken}
+use Rattle.grid.specs.Grid.{required_low, required_high, close_taken}
+use Rattle.grid.specs.declared.closes.Close.{Close}
 use Rattle.grid.proofs.GridLaws.{required-low, required-high}
 use Rattle.rules.specs.Rules.{Moment}
 use Rattle.rules.specs.Rulebook.{begun, first_at, tier_at, rules}
-use Rattle.rules.proofs.RulebookLaws.{first-day, live_rises}
+use Rattle.rules.specs.declared.live.LiveMonths.{LiveMonths}
+use Rattle.rules.proofs.RulebookLaws.{live_rises}
 use Rattle.layout.specs.Rows.{new_entry, rows_of}
 use Rattle.layout.specs.Register.{empty, running, listed}
 use Rattle.layout.specs.Bytes.{bytes_of}
@@ -35,18 +37,10 @@ use Rattle.calls.proofs.CountLaws.{on}
 use Rattle.relisting.proofs.Counting.{count_months}
 use Rattle.relisting.proofs.Plans.{prices_rise, ready}
 
--- a close that is taken, and a moment that has a live month
-module _ (cal : List ℕ) (x : Moment) (close : ℕ) (ok : Taken cal x close) where
-  pub close-low : lowest_close ≤ close
-  unfolding close_taken
-  close-low = within_l lowest_close highest_close close ok.close-taken
-
-  pub close-high : close ≤ highest_close
-  unfolding close_taken
-  close-high = within_r lowest_close highest_close close ok.close-taken
-
-  pub day-in : x.day < day_count
-  day-in = let l = ok.live in first-day cal x (omega arith)
+-- a moment whose live months these are, and a close, are taken
+pub taken_i : (cal : List ℕ) (x : Moment) (live : LiveMonths) (close : Close) → Passes cal → live.first ≡ first_at cal x → Taken cal x close.hundredths
+unfolding close_taken
+taken_i cal x live close p e = record { passes = p; live = rw e at live.latest; close-taken = within_i close.lowest close.highest }
 
 -- no month held a span
 abbrev pub none : List (List ℕ)

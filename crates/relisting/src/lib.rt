@@ -2,22 +2,36 @@
 #![tactic(auto)]
 
 ghost use Rattle.std.specs.Prelude.{◌≡◌, true, ◌++◌, ◌+◌, ◌*◌, ◌≤◌, map, length, get_or, drop};
-ghost use Rattle.calendar.specs.Calendar.{next_session};
+ghost use Rattle.calendar.specs.Calendar.{expiry_of, next_session};
+ghost use Rattle.calendar.specs.Live.{first_live};
 ghost use Rattle.grid.specs.Numbers.{number_of};
 ghost use Rattle.rules.specs.Rulebook.{begun, moved, rules};
 ghost use Rattle.layout.specs.Register.{empty, running};
 ghost use Rattle.layout.specs.Bytes.{register_length, rows_from, row_of, read_rows, bytes_of, moment_of, body_of};
-ghost use Rattle.register.specs.Check.{Runs};
+ghost use Rattle.register.specs.Opens.{Finds};
 ghost use Rattle.ladders.specs.Writing.{ladders_from};
 ghost use Rattle.ladders.specs.Plans.{plan_of};
 ghost use Rattle.calls.specs.Listing.{start_body};
-ghost use Rattle.relisting.specs.Writing.{answer, head_bytes, quiet_bytes, Taken, session_of, dropped_rows};
+ghost use Rattle.relisting.specs.Writing.{answer, head_bytes, quiet_bytes, session_of, dropped_rows};
 
 use base::{put_word, word};
 use calendar::Calendar;
 use calls::Totals;
+use grid::Close;
 use ladders::Plans;
 use layout::{COUNT, DAY, Origin, REGISTER_LENGTH, ROW_LENGTH, ROWS, STATUS, WAITING};
+use register::Running;
+use rules::LiveMonths;
+
+// A start or a session that is not refused: its day, whose live months these are, and its close.
+#[derive(Clone, Copy)]
+pub struct Listing<'a> {
+    pub calendar: Calendar<'a>,
+    pub day: u16,
+    pub live: LiveMonths,
+    pub close: Close,
+    ghost months: { live.first ≡ first_live (expiry_of calendar.bytes.now) day },
+}
 
 // Writes status, day and row count, and clears the announcements.
 fn write_head(register: &mut [u8], day: u16, count: u16)
@@ -43,18 +57,16 @@ fn list(register: &mut [u8], old: &[[u8; ROW_LENGTH]], plans: &Plans) -> u16
 }
 
 // A start that is not refused.
-pub fn list_start(calendar: &[u8], register: &mut [u8], day: u16, close: u32) -> Totals
-    requires register_len { length register.old ≡ register_length }
-    requires taken { Taken calendar.now (begun day) close }
-    ensures value { result ≡ answer (rules calendar.now) empty (running (start_body (rules calendar.now) (begun day) close)) }
-    ensures register_after { register.new ≡ bytes_of (running (start_body (rules calendar.now) (begun day) close)) }
+pub fn list_start(register: &mut [u8], listing: Listing<'_>) -> Totals
+    requires { length register.old ≡ register_length }
+    ensures value { result ≡ answer (rules listing.entry.calendar.bytes.now) empty (running (start_body (rules listing.entry.calendar.bytes.now) (begun listing.entry.day) listing.entry.close.hundredths)) }
+    ensures register_after { register.new ≡ bytes_of (running (start_body (rules listing.entry.calendar.bytes.now) (begun listing.entry.day) listing.entry.close.hundredths)) }
 {
-    let first = calendar::first_live(Calendar { bytes: calendar }, day);
-    let months = calendar::live_months(first);
+    let months = listing.live.months();
     let held = [[0; 2]; 6];
-    let spans = spans::close_spans(months, held, close);
+    let spans = spans::close_spans(months, held, listing.close);
     let plans = Plans {
-        day,
+        day: listing.day,
         origin: Origin::Start,
         months,
         held,
@@ -70,15 +82,15 @@ pub fn list_start(calendar: &[u8], register: &mut [u8], day: u16, close: u32) ->
 }
 
 // How many rows the first live month of the session before had, if it is no longer live. It was in tier N, whose prices have all numbers.
-fn dropped_rows(before: u16, first: u16, span: [u16; 2]) -> u16
+fn dropped_rows(before: LiveMonths, live: LiveMonths, span: [u16; 2]) -> u16
     requires { number_of (get_or span 0 0) ≤ number_of (get_or span 1 0) }
-    ensures { result ≡ dropped_rows before first span }
+    ensures { result ≡ dropped_rows before.first live.first span }
 {
-    if before == first {
+    if before == live {
         0
     } else {
-        grid::number_of(span[1] as u32).unwrap_or(0) + 1
-            - grid::number_of(span[0] as u32).unwrap_or(0)
+        grid::number_of(u32::from(span[1])).unwrap_or(0) + 1
+            - grid::number_of(u32::from(span[0])).unwrap_or(0)
     }
 }
 
@@ -95,28 +107,20 @@ fn relist(register: &mut [u8], rows: u16, dropped: u16, plans: &Plans) -> u16
 }
 
 // A session that is not refused. Where no month is new and no span wider, the rows stay as they are.
-pub fn list_session(
-    calendar: &[u8],
-    register: &mut [u8],
-    day: u16,
-    close: u32,
-    spans: [[u16; 2]; 6],
-) -> Totals
-    requires runs { Runs calendar.now register.old spans }
-    requires taken { Taken calendar.now (moved (moment_of register.old) day) close × (day ≡ next_session calendar.now (moment_of register.old).day) }
-    ensures value { result ≡ answer (rules calendar.now) (running (body_of register.old)) (running (session_of calendar.now register.old day close)) }
-    ensures register_after { register.new ≡ bytes_of (running (session_of calendar.now register.old day close)) }
+pub fn list_session(register: &mut [u8], before: Running<'_>, listing: Listing<'_>) -> Totals
+    requires found { Finds listing.calendar.bytes.now register.old before }
+    requires next { listing.day ≡ next_session listing.calendar.bytes.now (moment_of register.old).day }
+    ensures value { result ≡ answer (rules listing.entry.calendar.bytes.now) (running (body_of register.old)) (running (session_of listing.entry.calendar.bytes.now register.old listing.entry.day listing.entry.close.hundredths)) }
+    ensures register_after { register.new ≡ bytes_of (running (session_of listing.entry.calendar.bytes.now register.old listing.entry.day listing.entry.close.hundredths)) }
 {
     let rows = word(register, COUNT);
-    let before = calendar::first_live(Calendar { bytes: calendar }, word(register, DAY));
-    let first = calendar::first_live(Calendar { bytes: calendar }, day);
-    let months = calendar::live_months(first);
-    let held = spans::held_spans(calendar::live_months(before), spans, months);
-    let wide = spans::close_spans(months, held, close);
+    let months = listing.live.months();
+    let held = spans::held_spans(before.live.months(), before.spans, months);
+    let wide = spans::close_spans(months, held, listing.close);
     let places = layout::places(register, usize::from(register[WAITING]));
     let new = spans::new_spans(places, months, held, wide);
-    if before == first && held == new {
-        write_head(register, day, rows);
+    if before.live == listing.live && held == new {
+        write_head(register, listing.day, rows);
         return Totals {
             added: 0,
             removed: 0,
@@ -124,14 +128,14 @@ pub fn list_session(
         };
     }
     let plans = Plans {
-        day,
+        day: listing.day,
         origin: Origin::Live,
         months,
         held,
         wide,
         spans: new,
     };
-    let dropped = dropped_rows(before, first, spans[0]);
+    let dropped = dropped_rows(before.live, listing.live, before.spans[0]);
     let count = relist(register, rows, dropped, &plans);
     Totals {
         added: count + dropped - rows,

@@ -4,11 +4,11 @@
 ghost use Rattle.std.specs.Prelude.{◌≡◌, [], map, ◌≤◌, ◌<◌, length, get_or};
 ghost use Rattle.base.specs.Words.{at16};
 ghost use Rattle.calendar.specs.Live.{live_months};
-ghost use Rattle.rules.specs.Rules.{last_first_month};
 ghost use Rattle.scan.specs.Scan.{scanned, fitting, climbed, ladder_rows, some_rows, ladder_spans};
 
 use base::{Tier, word};
 use layout::{FIRST_DAY, MONTH, ORIGIN, PRICE, ROW_LENGTH};
+use rules::LiveMonths;
 
 // Whether a row is that of a month at a price, with a first day up to the day and an origin from 1 to 5, zero behind it.
 // Month and price are compared as one number, and the origin with the byte behind it, so that few loads and branches do.
@@ -70,15 +70,14 @@ fn price_at(rows: &[[u8; ROW_LENGTH]], i: usize) -> u16
 }
 
 // The six spans, where the rows are the live months' ladders one behind the other and no other row stands.
-pub fn ladders(rows: &[[u8; ROW_LENGTH]], day: u16, first: u16) -> Option<[[u16; 2]; 6]>
-    requires { first ≤ last_first_month }
-    ensures { result ≡ ladder_spans day first [] (live_months first) (map scanned rows.now) }
+pub fn ladders(rows: &[[u8; ROW_LENGTH]], day: u16, live: LiveMonths) -> Option<[[u16; 2]; 6]>
+    ensures { result ≡ ladder_spans day live.first [] (live_months live.first) (map scanned rows.now) }
 {
-    let months = calendar::live_months(first);
+    let months = live.months();
     let mut spans = [[0; 2]; 6];
     let mut rest = rows;
     for (i, month) in months.iter().enumerate() {
-        let n = ladder(rest, day, *month, calendar::tier_of(first, *month))?;
+        let n = ladder(rest, day, *month, live.tier(*month))?;
         spans[i] = [price_at(rest, 0), price_at(rest, n - 1)];
         (_, rest) = rest.split_at(n);
     }

@@ -3,7 +3,6 @@
 
 ghost use Rattle.std.specs.Prelude.{◌≡◌, ◌≤◌, map, get_or};
 ghost use Rattle.dates.specs.Months.{month_count};
-ghost use Rattle.grid.specs.Grid.{lowest_close, highest_close};
 ghost use Rattle.layout.specs.Bytes.{place_of};
 ghost use Rattle.layout.specs.Spans.{span_in};
 ghost use Rattle.spans.specs.Spans.{held_spans, close_pair, close_spans, announced_pair, new_pair, new_spans};
@@ -48,14 +47,14 @@ fn close_pair(held: [u16; 2], low: u16, high: u16) -> [u16; 2]
 }
 
 // The spans as the close alone widens them.
-pub fn close_spans(months: [u16; 6], held: [[u16; 2]; 6], close: u32) -> [[u16; 2]; 6]
-    requires { (get_or months 0 0 ≤ month_count) × (lowest_close ≤ close) × (close ≤ highest_close) }
-    ensures { result ≡ close_spans months held close }
+pub fn close_spans(months: [u16; 6], held: [[u16; 2]; 6], close: Close) -> [[u16; 2]; 6]
+    requires { get_or months 0 0 ≤ month_count }
+    ensures { result ≡ close_spans months held close.hundredths }
 {
     let mut spans = held;
     for (i, month) in months.iter().enumerate() {
         let tier = calendar::tier_of(months[0], *month);
-        let required = grid::required_strikes(tier, Close { hundredths: close });
+        let required = grid::required_strikes(tier, close);
         spans[i] = close_pair(held[i], required.low, required.high);
     }
     spans

@@ -1,6 +1,8 @@
 -- `announcing::announce` meets its contract: cause after cause, then the announcement in its place.
 -- Assumes nothing.
-use mathlib.Core.Path.{refl, sym}
+use mathlib.Core.Path.{refl, sym, subst}
+use mathlib.Core.List.{List}
+use Prim.Native.Nat.{ℕ}
 use native.Mathlib.Omega.{arith}
 use Rattle.std.proofs.lemmas.Result.{err_from_is_err_and}
 use Rattle.base.specs.declared.causes.Cause.TheVariants.{Empty as EmptyCause}
@@ -14,20 +16,20 @@ use Rattle.calls.specs.declared.Call.TheVariants.{Announce}
 use Rattle.calls.specs.Listing.{number, accepted}
 use Rattle.calls.specs.Answers.{waiting_in, announced_at}
 use Rattle.calls.proofs.AnswerLaws.{refused-told, own-refused, accepted-told}
-use Rattle.register.specs.Check.{Runs}
+use Rattle.register.specs.Opens.{Finds}
 use Rattle.announcing.proofs.Causes.{fits, room}
 use Rattle.announcing.proofs.announce.Goals.{In-Running}
 use Rattle.announcing.proofs.announce.Goals as goal
 
 -- a register that runs
-opened : (c : In-Running) → Runs c.args.calendar.now c.args.register.now c.in-Running.spans
-opened c = rw c.in-Running.is at c.in_ok-spans.ensures
+opened : (c : In-Running) → Finds c.args.calendar.now c.args.register.now c.in-Running.before
+opened c = rw c.in-Running.is at c.in_ok-before.ensures
 
-pub returns-in_err-spans : goal.returns-in_err-spans
+pub returns-in_err-before : goal.returns-in_err-before
 unfolding announced_at
-returns-in_err-spans c =
+returns-in_err-before c =
     let p = err_from_is_err_and c.from_residual.result c.from_residual.ensures.1 in
-    let x = refused-told _ _ (Announce c.args.month c.args.price) (c.in_err-spans.ensures _) _ in
+    let x = refused-told _ _ (Announce c.args.month c.args.price) (c.in_err-before.ensures _) _ in
     record { value = rw (p.1, p.2) x.0; register_after = x.1 }
 
 pub returns-in_default : goal.returns-in_default
@@ -36,14 +38,14 @@ returns-in_default c =
     let cal = c.args.calendar.now in
     let bs = c.args.register.now in
     let call : Call = Announce c.args.month c.args.price in
-    let r : Reads cal bs empty = rw c.in_default.is at c.in_ok-spans.ensures in
+    let r : Reads cal bs empty = (rw c.in_default.is at c.in_ok-before.ensures).0 in
     let x = refused-told cal bs call (own-refused cal bs call empty r EmptyCause refl) _ in
     record { value = x.0; register_after = x.1 }
 
 pub announce_refusal-requires : goal.announce_refusal-requires
 announce_refusal-requires c =
     let o = opened (goal.at.announce_refusal-requires c).In-Running in
-    o
+    subst (λ (xs : List ℕ). Finds xs c.args.register.now c.in-Running.before) (sym o.calendar_is) o
 
 pub returns-in_err-announce_refusal : goal.returns-in_err-announce_refusal
 unfolding announced_at
@@ -52,25 +54,25 @@ returns-in_err-announce_refusal c =
     let p = err_from_is_err_and f.result f.ensures.1 in
     let o = opened (goal.at.returns-in_err-announce_refusal c).In-Running in
     let call : Call = Announce c.args.month c.args.price in
-    let x = refused-told _ _ call (own-refused _ _ call _ o.reads _ c.in_err-announce_refusal.ensures) _ in
+    let x = refused-told _ _ call (own-refused _ _ call _ o.runs.reads _ (rw o.calendar_is at c.in_err-announce_refusal.ensures)) _ in
     record { value = rw (p.1, p.2) x.0; register_after = x.1 }
 
 pub overflow_cast-month : goal.overflow_cast-month
 overflow_cast-month c =
     let o = opened (goal.at.overflow_cast-month c).In-Running in
-    let f = fits _ _ c.args.month c.args.price o.reads.size (runs _ _ o.well) (sym c.in_ok-announce_refusal.ensures) in
+    let f = fits _ _ c.args.month c.args.price o.runs.reads.size (runs _ _ o.runs.well) (sym (rw o.calendar_is at c.in_ok-announce_refusal.ensures)) in
     omega arith
 
 pub overflow_cast-price : goal.overflow_cast-price
 overflow_cast-price c =
     let o = opened (goal.at.overflow_cast-price c).In-Running in
-    let f = fits _ _ c.args.month c.args.price o.reads.size (runs _ _ o.well) (sym c.in_ok-announce_refusal.ensures) in
+    let f = fits _ _ c.args.month c.args.price o.runs.reads.size (runs _ _ o.runs.well) (sym (rw o.calendar_is at c.in_ok-announce_refusal.ensures)) in
     omega arith
 
 pub put_announcement-requires : goal.put_announcement-requires
 put_announcement-requires c =
     let o = opened (goal.at.put_announcement-requires c).In-Running in
-    room _ _ c.args.month c.args.price o.reads.size (runs _ _ o.well) (sym c.in_ok-announce_refusal.ensures)
+    room _ _ c.args.month c.args.price o.runs.reads.size (runs _ _ o.runs.well) (sym (rw o.calendar_is at c.in_ok-announce_refusal.ensures))
 
 pub returns : goal.returns
 unfolding announced_at accepted waiting_in
@@ -80,5 +82,5 @@ returns c =
     let call : Call = Announce c.args.month c.args.price in
     let o = opened (goal.at.returns c).In-Running in
     let k = c.put_announcement in
-    let x = accepted-told cal bs call (running (body_of bs)) o.reads (sym c.in_ok-announce_refusal.ensures) (λ r. waiting_in (accepted (rules cal) call r)) _ _ k.ensures.value k.ensures.register_after in
+    let x = accepted-told cal bs call (running (body_of bs)) o.runs.reads (sym (rw o.calendar_is at c.in_ok-announce_refusal.ensures)) (λ r. waiting_in (accepted (rules cal) call r)) _ _ k.ensures.value k.ensures.register_after in
     record { value = x.0; register_after = x.1 }

@@ -6,5 +6,5 @@ use Rattle.announcing.proofs.put_announcement.Goals as goal
 pub returns : goal.returns
 returns c =
     let a = c.args in
-    let p = put_is a.register.now c.requires a.month a.price c.write_place.new.part c.write_place.ensures in
-    record { value = p.0; register_after = p.1 }
+    let p = put_is a.register.now c.requires a.month a.price c.write_place.new.part (rw c.from.ensures at c.write_place.ensures) in
+    record { value = rw c.from-2.ensures p.0; register_after = rw c.from.ensures p.1 }

@@ -1,6 +1,6 @@
 -- `loader::write` meets its contract: the causes are tried downwards, then the file is written.
 -- Assumes nothing.
-use mathlib.Core.Path.{◌≡◌, refl}
+use mathlib.Core.Path.{◌≡◌, refl, ◌∙◌}
 use mathlib.Core.List.{List}
 use Prim.Native.Nat.{ℕ, ◌+◌, ◌*◌, ◌≤◌}
 use native.Mathlib.Omega.{arith}
@@ -14,6 +14,7 @@ use Rattle.layout.specs.Opening.{Reads}
 use Rattle.layout.proofs.OpeningLaws.{refused_own}
 use Rattle.layout.proofs.Running.{runs}
 use Rattle.register.specs.Check.{Runs}
+use Rattle.register.specs.Opens.{Finds}
 use Rattle.naming.specs.DayFile.{day_file}
 use Rattle.loader.specs.Loader.{file_cause}
 use Rattle.loader.proofs.Listed.{rows_inside, first-month}
@@ -22,8 +23,10 @@ use Rattle.loader.proofs.write.Goals.{In-Running}
 use Rattle.loader.proofs.write.Goals as goal
 
 -- a register that runs
-opened : (c : In-Running) → Runs c.args.calendar.now c.args.register.now c.in-Running.field-0
-opened c = rw c.in-Running.is at c.in_ok-open.ensures
+opened : (c : In-Running) → Runs c.args.calendar.now c.args.register.now c.in-Running.field-0.spans
+opened c =
+    let o : Finds c.args.calendar.now c.args.register.now c.in-Running.field-0 = rw c.in-Running.is at c.in_ok-open.ensures in
+    o.runs
 
 -- its rows lie inside it
 inside : (cal bs : List ℕ) {spans : List (List ℕ)} → Runs cal bs spans → (rows : ℕ) → rows ≡ at16 bs 4 → rows_from + 8 * rows ≤ length bs
@@ -41,7 +44,7 @@ returns-in_default c =
     let cal = c.args.calendar.now in
     let bs = c.args.register.now in
     let out = c.args.file.now in
-    let r : Reads cal bs empty = rw c.in_default.is at c.in_ok-open.ensures in
+    let r : Reads cal bs empty = (rw c.in_default.is at c.in_ok-open.ensures).0 in
     let a = refused_file cal bs out (refused_own cal bs empty r (file_cause out) EmptyCause refl (λ z. omega arith)) in
     record { value = a.0; file_after = a.1 }
 
@@ -58,13 +61,13 @@ word-requires c =
 pub rows-rows-requires : goal.rows-rows-requires
 rows-rows-requires c =
     let r = opened (goal.at.rows-rows-requires c).In-Running in
-    inside _ _ r c.word.result c.word.ensures
+    inside _ _ r c.from.result (c.from.ensures ∙ c.word.ensures)
 
 pub returns-then-file-length : goal.returns-then-file-length
 returns-then-file-length c =
     let r = opened (goal.at.returns-then-file-length c).In-Running in
     let size : 5 + 30 * c.count_new.result ≡ length (day_file (body_of c.args.register.now)) =
-    size_is c.args.calendar.now c.args.register.now c.args.file.now r.reads (runs _ _ r.well) c.word-day.ensures c.word.ensures c.rows-rows.ensures.bytes c.count_new.ensures.new in
+    size_is c.args.calendar.now c.args.register.now c.args.file.now r.reads (runs _ _ r.well) c.word-day.ensures (c.from.ensures ∙ c.word.ensures) c.rows-rows.ensures.bytes c.count_new.ensures.new in
     let a = short_file c.args.calendar.now c.args.register.now c.args.file.now r.reads (omega (arith, size, c.if-file-length.true)) in
     record { value = a.0; file_after = a.1 }
 
@@ -84,7 +87,7 @@ split_at-requires c = c.rows_before.ensures.most
 pub put_file-requires : goal.put_file-requires
 put_file-requires c =
     let r = opened (goal.at.put_file-requires c).In-Running in
-    let n = parts_size c.args.calendar.now c.args.register.now c.args.file.now r.reads (runs _ _ r.well) c.word-day.ensures c.word.ensures c.rows-rows.ensures.bytes c.word-first.ensures c.rows_before.ensures.before c.split_at.ensures.front c.split_at.ensures.back in
+    let n = parts_size c.args.calendar.now c.args.register.now c.args.file.now r.reads (runs _ _ r.well) c.word-day.ensures (c.from.ensures ∙ c.word.ensures) c.rows-rows.ensures.bytes c.word-first.ensures c.rows_before.ensures.before c.split_at.ensures.front c.split_at.ensures.back in
     omega (arith, n, c.count_new.ensures.new, c.if-file-length.false)
 
 pub returns : goal.returns
@@ -94,8 +97,8 @@ returns c =
     let out = c.args.file.now in
     let r = opened (goal.at.returns c).In-Running in
     let rows = c.rows-rows.ensures.bytes in
-    let size = size_is cal bs out r.reads (runs _ _ r.well) c.word-day.ensures c.word.ensures rows c.count_new.ensures.new in
-    let n = parts_size cal bs out r.reads (runs _ _ r.well) c.word-day.ensures c.word.ensures rows c.word-first.ensures c.rows_before.ensures.before c.split_at.ensures.front c.split_at.ensures.back in
-    let a = written_file cal bs out r.reads (runs _ _ r.well) c.word-day.ensures c.word.ensures rows c.word-first.ensures c.rows_before.ensures.before c.split_at.ensures.front c.split_at.ensures.back
+    let size = size_is cal bs out r.reads (runs _ _ r.well) c.word-day.ensures (c.from.ensures ∙ c.word.ensures) rows c.count_new.ensures.new in
+    let n = parts_size cal bs out r.reads (runs _ _ r.well) c.word-day.ensures (c.from.ensures ∙ c.word.ensures) rows c.word-first.ensures c.rows_before.ensures.before c.split_at.ensures.front c.split_at.ensures.back in
+    let a = written_file cal bs out r.reads (runs _ _ r.well) c.word-day.ensures (c.from.ensures ∙ c.word.ensures) rows c.word-first.ensures c.rows_before.ensures.before c.split_at.ensures.front c.split_at.ensures.back
     size c.if-file-length.false (rw (n, ← c.count_new.ensures.new) at c.put_file.ensures) in
     record { value = a.0; file_after = a.1 }

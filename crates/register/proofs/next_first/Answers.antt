@@ -13,16 +13,16 @@ use Rattle.register.proofs.next_first.Goals.{After-next_session-next}
 use Rattle.register.proofs.next_first.Goals as goal
 
 on-next : (c : After-next_session-next) →
-    let a = c.args in
-    first_live (expiry_of a.calendar.now) c.next_session-next.result ≡ first_at a.calendar.now (next (rules a.calendar.now) (moment_of a.register.now))
+    let cal = c.args.calendar.bytes.now in
+    first_live (expiry_of cal) c.next_session-next.result ≡ first_at cal (next (rules cal) (moment_of c.args.register.now))
 unfolding rules moved moment_of
 on-next c =
-    let a = c.args in
-    rw (c.next_session-next.ensures, c.word.ensures) (first_is a.calendar.now (next (rules a.calendar.now) (moment_of a.register.now)))
+    let cal = c.args.calendar.bytes.now in
+    rw (c.next_session-next.ensures, c.word.ensures) (first_is cal (next (rules cal) (moment_of c.args.register.now)))
 
 pub next_session-next-requires : goal.next_session-next-requires
 unfolding moment_of
-next_session-next-requires c = rw c.word.ensures c.requires.2
+next_session-next-requires c = rw c.word.ensures c.requires.1
 
 pub returns-then-next-lt-DAYS : goal.returns-then-next-lt-DAYS
 returns-then-next-lt-DAYS c = c.first_live.ensures ∙ on-next (goal.at.returns-then-next-lt-DAYS c).After-next_session-next

@@ -6,25 +6,28 @@ use Rattle.layout.proofs.OpeningLaws.{reads-empty}
 use Rattle.register.proofs.Opens.{passes-checked, refused-calendar, refused-length, refused_run, refused-zero}
 use Rattle.register.proofs.open.Goals as goal
 
-pub returns-in_err-check : goal.returns-in_err-check
-returns-in_err-check c =
+pub returns-in_err-calendar : goal.returns-in_err-calendar
+returns-in_err-calendar c =
     let p = err_from_is_err_and c.from_residual.result c.from_residual.ensures.1 in
-    rw (p.1, p.2) (refused-calendar _ _ _ c.in_err-check.ensures.answer)
+    rw (p.1, p.2) (refused-calendar _ _ _ c.in_err-calendar.ensures.answer)
 
 pub returns-then-register-ne-REGISTER_LENGTH : goal.returns-then-register-ne-REGISTER_LENGTH
-returns-then-register-ne-REGISTER_LENGTH c = refused-length _ _ (passes-checked _ c.args.register.now c.in_ok-check.ensures.answer) c.if-register-ne-REGISTER_LENGTH.true
-
-pub standing-requires : goal.standing-requires
-standing-requires c = (passes-checked _ c.args.register.now c.in_ok-check.ensures.answer, c.if-register-ne-REGISTER_LENGTH.false)
+returns-then-register-ne-REGISTER_LENGTH c = refused-length _ _ (passes-checked _ c.args.register.now c.in_ok-calendar.ensures.answer) c.if-register-ne-REGISTER_LENGTH.true
 
 pub returns-in_err-standing : goal.returns-in_err-standing
 returns-in_err-standing c =
     let p = err_from_is_err_and c.from_residual-in_err-standing.result c.from_residual-in_err-standing.ensures.1 in
-    let e = c.in_err-standing.ensures in
-    rw (p.1, p.2, e.1) (refused_run _ _ (passes-checked _ c.args.register.now c.in_ok-check.ensures.answer) c.if-register-ne-REGISTER_LENGTH.false c.if-register-ne0.true e.0)
+    let e = rw c.in_ok-calendar.ensures.bytes at c.in_err-standing.ensures in
+    rw (p.1, p.2, e.1) (refused_run _ _ (passes-checked _ c.args.register.now c.in_ok-calendar.ensures.answer) c.if-register-ne-REGISTER_LENGTH.false c.if-register-ne0.true e.0)
+
+pub returns-then-register-ne0 : goal.returns-then-register-ne0
+returns-then-register-ne0 c = rw c.in_ok-calendar.ensures.bytes at c.in_ok-standing.ensures
 
 pub returns-then-is_zero : goal.returns-then-is_zero
-returns-then-is_zero c = reads-empty _ _ (passes-checked _ c.args.register.now c.in_ok-check.ensures.answer) c.if-register-ne-REGISTER_LENGTH.false (sym c.is_zero.ensures ∙ c.if-is_zero.true)
+returns-then-is_zero c = (
+  reads-empty _ _ (passes-checked _ c.args.register.now c.in_ok-calendar.ensures.answer) c.if-register-ne-REGISTER_LENGTH.false (sym c.is_zero.ensures ∙ c.if-is_zero.true),
+  c.in_ok-calendar.ensures.bytes,
+)
 
 pub returns-else-is_zero : goal.returns-else-is_zero
-returns-else-is_zero c = refused-zero _ _ (passes-checked _ c.args.register.now c.in_ok-check.ensures.answer) c.if-register-ne-REGISTER_LENGTH.false c.if-register-ne0.false (sym c.is_zero.ensures ∙ c.if-is_zero.false)
+returns-else-is_zero c = refused-zero _ _ (passes-checked _ c.args.register.now c.in_ok-calendar.ensures.answer) c.if-register-ne-REGISTER_LENGTH.false c.if-register-ne0.false (sym c.is_zero.ensures ∙ c.if-is_zero.false)

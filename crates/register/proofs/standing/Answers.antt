@@ -1,6 +1,6 @@
 -- `register::standing` meets its contract: a register that stands passes each test, and one that passes them all stands.
 -- Assumes nothing.
-use mathlib.Core.Path.{◌≡◌, sym, ◌∙◌}
+use mathlib.Core.Path.{◌≡◌, refl, sym, ◌∙◌}
 use mathlib.Core.Bool.{true}
 use mathlib.Core.List.{List, [], map}
 use Prim.Native.Nat.{ℕ, ◌<◌}
@@ -12,27 +12,26 @@ use Rattle.rules.specs.Rulebook.{first_at, rules}
 use Rattle.layout.specs.Register.{waiting_ok}
 use Rattle.base.specs.Words.{at16}
 use Rattle.layout.specs.Bytes.{moment_of, body_of, rows_from}
-use Rattle.std.specs.Prelude.{Ok, Option}
+use Rattle.std.specs.Prelude.{Option}
 use Rattle.std.specs.Simd.{first_chunks}
 use Rattle.std.proofs.lemmas.Option.{none-some}
-use Rattle.register.specs.Check.{Keeps, Stands}
+use Rattle.register.specs.Check.{Keeps}
+use Rattle.register.specs.Opens.{Finds}
 use Rattle.layout.proofs.Running.{runs_i}
 use Rattle.layout.proofs.OpeningLaws.{reads-running}
 use Rattle.scan.specs.Scan.{scanned, rows_at, ladder_spans}
 use Rattle.scan.proofs.Steps.{rows_scanned}
 use Rattle.layout.proofs.ByteLaws.{places_none}
 use Rattle.register.proofs.Well.{first_read, run_keeps, run-session, run-first, run-day, run_spans, Scanned, spans_are, stands_if, none_stand}
-use Rattle.register.proofs.standing.Goals.{Else-not-keeps_layout, After-first_live-first, In-Some}
+use Rattle.register.proofs.standing.Goals.{Else-not-keeps_layout, In-Ok, In-Some}
 use Rattle.register.proofs.standing.Goals as goal
 
 keeps : (c : Else-not-keeps_layout) → Keeps c.args.register.now
 keeps c = c.keeps_layout.ensures.if_true (c.if-not-keeps_layout.false)
 
 -- what the code took from the bytes
-first_is : (c : After-first_live-first) →
-    let a = c.args in
-    c.first_live-first.result ≡ first_at a.calendar.now (moment_of a.register.now)
-first_is c = first_read _ _ c.word-day.ensures c.first_live-first.ensures
+first : (c : In-Ok) → c.in-Ok.live.first ≡ first_at c.args.calendar.bytes.now (moment_of c.args.register.now)
+first c = c.in-Ok.ensures ∙ first_read _ _ c.word-day.ensures c.first_live.ensures
 
 -- what the scan finds, as it was lent the rows
 found_is : (cal bs : List ℕ) {found : Option (List (List ℕ))} {day first count : ℕ} {rows : List (List ℕ)}
@@ -41,62 +40,67 @@ found_is : (cal bs : List ℕ) {found : Option (List (List ℕ))} {day first cou
     → found ≡ ladder_spans (at16 bs 2) (first_at cal (moment_of bs)) [] (live_months (first_at cal (moment_of bs))) (rows_at (at16 bs 4) (drop rows_from bs))
 found_is cal bs s d f n r = s ∙ rw (d, f, r, n, rows_scanned)
 
-scan : (c : In-Some) →
-    let a = c.args in
-    Scanned a.calendar.now a.register.now c.in-Some.spans
+scan : (c : In-Some) → Scanned c.args.calendar.bytes.now c.args.register.now c.in-Some.spans
 scan c =
+    let f = c.in-Ok.ensures ∙ first_read _ _ c.word-day.ensures c.first_live.ensures in
     record {
       keeps = c.keeps_layout.ensures.if_true c.if-not-keeps_layout.false;
       day-session = rw c.word-day.ensures at (sym c.has_session.ensures ∙ c.if-not-has_session.false);
-      first_le = omega (arith, c.if-first-gt-LAST_FIRST_MONTH.false, first_read _ _ c.word-day.ensures c.first_live-first.ensures);
-      spans_is = sym c.in-Some.is ∙ found_is _ _ c.ladders.ensures c.word-day.ensures (first_read _ _ c.word-day.ensures c.first_live-first.ensures) c.word.ensures c.rows-rows.ensures.bytes;
+      first_le = omega (arith, c.in-Ok.live.latest, f);
+      spans_is = sym c.in-Some.is ∙ found_is _ _ c.ladders.ensures c.word-day.ensures f (c.from.ensures ∙ c.word.ensures) c.rows-rows.ensures.bytes;
     }
 
 spans : (c : In-Some) →
-    let cal = c.args.calendar.now in
+    let cal = c.args.calendar.bytes.now in
     let bs = c.args.register.now in
-    waiting_ok (rules cal) (body_of bs) [] (body_of bs).waiting ≡ true → Stands cal bs (Ok c.in-Some.spans)
+    waiting_ok (rules cal) (body_of bs) [] (body_of bs).waiting ≡ true
+    → Finds cal bs (record { calendar = c.args.calendar; live = c.in-Ok.live; spans = c.in-Some.spans })
 spans c w =
-    let cal = c.args.calendar.now in
+    let cal = c.args.calendar.bytes.now in
     let bs = c.args.register.now in
-    let l = c.requires.1 in
+    let l = c.requires in
     let bytes : (i : ℕ) → get_or bs i 0 < 256 = λ i. (c.type_inv.register i).fits in
     let x = c.in-Some.spans in
     let h = runs_i cal bs (stands_if cal bs l bytes x (scan c) w) in
-    record { reads = reads-running cal bs c.requires.0 l h; well = h; spans_are = spans_are cal bs l bytes x (scan c) }
+    record {
+      runs = record { reads = reads-running cal bs c.args.calendar.passes l h; well = h; spans_are = spans_are cal bs l bytes x (scan c) };
+      calendar_is = refl;
+      first_is = c.in-Ok.ensures ∙ first_read _ _ c.word-day.ensures c.first_live.ensures;
+    }
 
 pub returns-then-not-keeps_layout : goal.returns-then-not-keeps_layout
-returns-then-not-keeps_layout c = none_stand _ _ (λ r. clash _ (c.keeps_layout.ensures.if_holds (run_keeps _ _ c.requires.1 r)) (c.if-not-keeps_layout.true))
+returns-then-not-keeps_layout c = none_stand _ _ (λ r. clash _ (c.keeps_layout.ensures.if_holds (run_keeps _ _ c.requires r)) (c.if-not-keeps_layout.true))
 
 pub returns-then-day-ge-DAYS : goal.returns-then-day-ge-DAYS
 unfolding moment_of
 returns-then-day-ge-DAYS c =
-    let cal = c.args.calendar.now in
+    let cal = c.args.calendar.bytes.now in
     let bs = c.args.register.now in
-    let l = c.requires.1 in
     let d = c.word-day.ensures in
-    none_stand cal bs (λ r. omega (arith, c.if-day-ge-DAYS.true, run-day cal bs l r))
+    none_stand cal bs (λ r. omega (arith, c.if-day-ge-DAYS.true, run-day cal bs c.requires r))
 
 pub returns-then-not-has_session : goal.returns-then-not-has_session
 returns-then-not-has_session c =
     let e = rw c.word-day.ensures at c.has_session.ensures in
-    none_stand _ _ (λ r. clash _ (e ∙ run-session _ _ c.requires.1 r) (c.if-not-has_session.true))
+    none_stand _ _ (λ r. clash _ (e ∙ run-session _ _ c.requires r) (c.if-not-has_session.true))
 
-pub returns-then-first-gt-LAST_FIRST_MONTH : goal.returns-then-first-gt-LAST_FIRST_MONTH
-returns-then-first-gt-LAST_FIRST_MONTH c = none_stand _ _ (λ r. omega (arith, c.if-first-gt-LAST_FIRST_MONTH.true, first_is (goal.at.returns-then-first-gt-LAST_FIRST_MONTH c).After-first_live-first, run-first _ _ c.requires.1 r))
+pub returns-in_default : goal.returns-in_default
+returns-in_default c =
+    let f = first_read _ c.args.register.now c.word-day.ensures c.first_live.ensures in
+    none_stand _ _ (λ r. omega (arith, c.in_default.ensures.1, f, run-first _ _ c.requires r))
 
 pub rows-rows-requires : goal.rows-rows-requires
 rows-rows-requires c =
     let k = keeps (goal.at.rows-rows-requires c).Else-not-keeps_layout in
-    omega (arith, c.requires.1, c.word.ensures, k.count)
+    omega (arith, c.requires, c.from.ensures, c.word.ensures, k.count)
 
-pub returns-in_default : goal.returns-in_default
-returns-in_default c =
-    let cal = c.args.calendar.now in
+pub returns-in_default-ladders : goal.returns-in_default-ladders
+returns-in_default-ladders c =
+    let cal = c.args.calendar.bytes.now in
     let bs = c.args.register.now in
-    let f = first_read _ _ c.word-day.ensures c.first_live-first.ensures in
-    let e = sym c.in_default.is ∙ found_is _ _ c.ladders.ensures c.word-day.ensures f c.word.ensures c.rows-rows.ensures.bytes in
-    none_stand cal bs (λ r. none-some _ (e ∙ run_spans cal bs c.requires.1 r))
+    let f = first (goal.at.returns-in_default-ladders c).In-Ok in
+    let e = sym c.in_default-ladders.is ∙ found_is cal bs c.ladders.ensures c.word-day.ensures f (c.from.ensures ∙ c.word.ensures) c.rows-rows.ensures.bytes in
+    none_stand cal bs (λ r. none-some _ (e ∙ run_spans cal bs c.requires r))
 
 pub returns-then-register-eq0 : goal.returns-then-register-eq0
 unfolding waiting_ok body_of
@@ -104,17 +108,17 @@ returns-then-register-eq0 c =
     let bs = c.args.register.now in
     spans (goal.at.returns-then-register-eq0 c).In-Some (rw (places_none bs 8 (get_or bs 1 0) (omega (arith, c.if-register-eq0.true))))
 
-pub waiting_stands-requires : goal.waiting_stands-requires
+pub waiting_stands-requires-clause-register_len : goal.waiting_stands-requires-clause-register_len
 unfolding moment_of
-waiting_stands-requires c =
-    let cal = c.args.calendar.now in
-    let bs = c.args.register.now in
-    let p = c.requires in
-    let s = scan (goal.at.waiting_stands-requires c).In-Some in
-    let e = spans_are cal bs p.1 (λ i. (c.type_inv.register i).fits) c.in-Some.spans s in
-    let d = c.word-day.ensures in
-    let f = first_is (goal.at.waiting_stands-requires c).After-first_live-first in
-    (p.0, p.1, s.keeps.waiting, rw d at c.if-day-ge-DAYS.false, f, c.if-first-gt-LAST_FIRST_MONTH.false, rw f e)
+waiting_stands-requires-clause-register_len c =
+    let s = scan (goal.at.waiting_stands-requires-clause-register_len c).In-Some in
+    (c.requires, s.keeps.waiting, rw c.word-day.ensures at c.if-day-ge-DAYS.false)
+
+pub waiting_stands-requires-clause-found : goal.waiting_stands-requires-clause-found
+waiting_stands-requires-clause-found c =
+    let g = goal.at.waiting_stands-requires-clause-found c in
+    let f = first g.In-Ok in
+    (f, rw f (spans_are c.args.calendar.bytes.now c.args.register.now c.requires (λ i. (c.type_inv.register i).fits) c.in-Some.spans (scan g.In-Some)))
 
 pub returns-then-not-waiting_stands : goal.returns-then-not-waiting_stands
 returns-then-not-waiting_stands c = none_stand _ _ (λ r. clash _ (c.waiting_stands.ensures ∙ r.well.sound.waits) (c.if-not-waiting_stands.true))

@@ -1,26 +1,30 @@
 -- `relisting::dropped_rows` meets its contract.
 -- Assumes nothing.
+use Rattle.std.proofs.Common.{sym, ap, ◌∙◌, arith}
 use native.Mathlib.Numerals.{add-one}
-use native.Mathlib.Omega.{arith}
-use lib.ListN.{get_or}
-use borrow.Author.Tests.{eq-eqb, ne_eqb}
+use Rattle.grid.specs.Numbers.{number_of}
 use Rattle.grid.proofs.Prices.{number_le, number-or}
 use Rattle.relisting.specs.Writing.{dropped_rows}
 use Rattle.relisting.proofs.dropped_rows.Goals as goal
 
 pub overflow_add-result : goal.overflow_add-result
-overflow_add-result c = omega (arith, number-or (get_or c.args.span 1 0) c.unwrap_or.ensures c.number_of.ensures, number_le (get_or c.args.span 1 0))
+overflow_add-result c =
+    let high = number-or c.from.result c.unwrap_or.ensures c.number_of.ensures in
+    omega (arith, high, number_le c.from.result)
 
 pub overflow_sub-result : goal.overflow_sub-result
 overflow_sub-result c =
-    omega (arith, number-or (get_or c.args.span 1 0) c.unwrap_or.ensures c.number_of.ensures, number-or (get_or c.args.span 0 0) c.unwrap_or-else-before-first.ensures c.number_of-else-before-first.ensures, c.requires)
+    let high = number-or c.from.result c.unwrap_or.ensures c.number_of.ensures ∙ ap number_of c.from.ensures in
+    let low = number-or c.from-else-eq.result c.unwrap_or-else-eq.ensures c.number_of-else-eq.ensures ∙ ap number_of c.from-else-eq.ensures in
+    omega (arith, high, low, c.requires)
 
-pub returns-then-before-first : goal.returns-then-before-first
+pub returns-then-eq : goal.returns-then-eq
 unfolding dropped_rows
-returns-then-before-first c = rw (eq-eqb _ _ c.if-before-first.true)
+returns-then-eq c = rw (sym c.eq.ensures ∙ c.if-eq.true)
 
-pub returns-else-before-first : goal.returns-else-before-first
+pub returns-else-eq : goal.returns-else-eq
 unfolding dropped_rows
-returns-else-before-first c =
-    let low = number-or (get_or c.args.span 0 0) c.unwrap_or-else-before-first.ensures c.number_of-else-before-first.ensures in
-    rw (ne_eqb _ _ c.if-before-first.false, low, number-or (get_or c.args.span 1 0) c.unwrap_or.ensures c.number_of.ensures, add-one)
+returns-else-eq c =
+    let high = number-or c.from.result c.unwrap_or.ensures c.number_of.ensures ∙ ap number_of c.from.ensures in
+    let low = number-or c.from-else-eq.result c.unwrap_or-else-eq.ensures c.number_of-else-eq.ensures ∙ ap number_of c.from-else-eq.ensures in
+    rw (sym c.eq.ensures ∙ c.if-eq.false, low, high, add-one)

@@ -1,63 +1,51 @@
 -- `relisting::list_start` meets its contract.
 -- Assumes nothing.
-use mathlib.Core.Path.{◌≡◌, ◌∙◌}
-use mathlib.Core.List.{List}
-use Prim.Native.Nat.{ℕ}
-use native.Mathlib.Omega.{arith}
-use Rattle.calendar.specs.Calendar.{expiry_of}
-use Rattle.calendar.specs.Live.{first_live, live_months}
+use Rattle.std.proofs.Common.{◌≡◌, ◌∙◌, arith}
+use Rattle.calendar.specs.Live.{live_months}
 use Rattle.rules.specs.Rulebook.{begun, first_at}
-use Rattle.rules.proofs.RulebookLaws as Rulebook
+use Rattle.rules.proofs.RulebookLaws.{first_is}
 use Rattle.spans.specs.Spans.{close_spans}
-use Rattle.relisting.proofs.Starts.{close-low, close-high, day-in, none, start_ready, start-done}
+use Rattle.relisting.specs.Writing.{Taken}
+use Rattle.relisting.proofs.Starts.{taken_i, none, start_ready, start-done}
+use Rattle.relisting.proofs.list_start.Goals.{After-months-months, After-close_spans-spans}
 use Rattle.relisting.proofs.list_start.Goals as goal
 
--- the month, the months and the spans that the code has taken up
-module _ (cal : List ℕ) (day : ℕ) where
-  first_is : (first : ℕ) → first ≡ first_live (expiry_of cal) day → first ≡ first_at cal (begun day)
-  unfolding begun
-  first_is first e = e ∙ Rulebook.first_is cal (begun day)
-
-  months_are : (first : ℕ) (months : List ℕ) → first ≡ first_live (expiry_of cal) day → months ≡ live_months first → months ≡ live_months (first_at cal (begun day))
-  months_are first months e l = rw (first_is first e) at l
-
-  spans_are : (first : ℕ) (months : List ℕ) (spans : List (List ℕ)) (close : ℕ) → first ≡ first_live (expiry_of cal) day → months ≡ live_months first
-      → spans ≡ close_spans months none close → spans ≡ close_spans (live_months (first_at cal (begun day))) none close
-  spans_are first months spans close e l s = rw (months_are first months e l) at s
-
-pub first_live-first-requires : goal.first_live-first-requires
+first : (c : After-months-months) → c.args.listing.live.first ≡ first_at c.args.listing.calendar.bytes.now (begun c.args.listing.day)
 unfolding begun
-first_live-first-requires c =
-    let a = c.args in
-    day-in a.calendar.now (begun a.day) a.close c.requires.taken
+first c = c.args.listing.months ∙ first_is c.args.listing.calendar.bytes.now (begun c.args.listing.day)
 
-pub live_months-months-requires : goal.live_months-months-requires
-live_months-months-requires c = omega (arith, first_is c.args.calendar.now c.args.day _ c.first_live-first.ensures, c.requires.taken.live)
+taken : (c : After-months-months) → Taken c.args.listing.calendar.bytes.now (begun c.args.listing.day) c.args.listing.close.hundredths
+taken c =
+    let l = c.args.listing in
+    taken_i l.calendar.bytes.now (begun l.day) l.live l.close l.calendar.passes (first c)
+
+months : (c : After-months-months) → c.months-months.result ≡ live_months (first_at c.args.listing.calendar.bytes.now (begun c.args.listing.day))
+months c = rw (first c) at c.months-months.ensures
+
+spans : (c : After-close_spans-spans) →
+    let l = c.args.listing in
+    c.months-months.result ≡ live_months (first_at l.calendar.bytes.now (begun l.day))
+    → c.close_spans-spans.result ≡ close_spans (live_months (first_at l.calendar.bytes.now (begun l.day))) none l.close.hundredths
+spans c m = rw m at c.close_spans-spans.ensures
 
 pub close_spans-spans-requires : goal.close_spans-spans-requires
 unfolding live_months
-close_spans-spans-requires c =
-    let a = c.args in
-    let l = c.requires.taken.live in
-    rw (months_are a.calendar.now a.day _ _ c.first_live-first.ensures c.live_months-months.ensures)
-    (omega arith, close-low a.calendar.now (begun a.day) a.close c.requires.taken, close-high a.calendar.now (begun a.day) a.close c.requires.taken)
+close_spans-spans-requires c = rw c.months-months.ensures (omega (arith, c.args.listing.live.latest))
 
 pub invariant_of-plans : goal.invariant_of-plans
 unfolding live_months
 invariant_of-plans c =
-    let a = c.args in
-    let f = c.first_live-first.ensures in
-    let m = c.live_months-months.ensures in
-    rw (spans_are a.calendar.now a.day _ _ _ a.close f m c.close_spans-spans.ensures, months_are a.calendar.now a.day _ _ f m)
-    (record { ready = start_ready a.calendar.now a.day a.close c.requires.taken })
+    let g = goal.at.invariant_of-plans c in
+    let l = c.args.listing in
+    let m = months g.After-months-months in
+    rw (spans g.After-close_spans-spans m, m) (record { ready = start_ready l.calendar.bytes.now l.day l.close.hundredths (taken g.After-months-months) })
 
 pub returns : goal.returns
 returns c =
-    let a = c.args in
-    let f = c.first_live-first.ensures in
-    let m = c.live_months-months.ensures in
-    let s = spans_are a.calendar.now a.day _ _ _ a.close f m c.close_spans-spans.ensures in
-    let l = months_are a.calendar.now a.day _ _ f m in
-    let d = start-done a.calendar.now a.day a.close c.requires.taken c.list-count.result c.list-count.new.register
-    (rw (s, l) at c.list-count.ensures.value) (rw (s, l) at c.list-count.ensures.register_after) in
+    let g = goal.at.returns c in
+    let l = c.args.listing in
+    let m = months g.After-months-months in
+    let s = spans g.After-close_spans-spans m in
+    let d = start-done l.calendar.bytes.now l.day l.close.hundredths (taken g.After-months-months) c.list-count.result c.list-count.new.register
+    (rw (s, m) at c.list-count.ensures.value) (rw (s, m) at c.list-count.ensures.register_after) in
     record { value = d.0; register_after = d.1 }

@@ -1,4 +1,4 @@
--- What the loop of `rows::month_place` keep.
+-- What the loop of `rows::month_place` keeps.
 -- Assumes nothing.
 use mathlib.Core.Path.{◌≡◌}
 use Prim.Native.Nat.{◌+◌, ◌*◌, ◌≤◌}
@@ -9,4 +9,6 @@ use Rattle.rows.proofs.month_place.Given as goal
 
 abbrev pub invariant-loop-i : goal.invariant-loop-i
 invariant-loop-i l =
-    (l.at ≤ rows_from + 4064 * l.i) × (month_place l.first l.month rows_from l.months l.spans ≡ month_place l.first l.month l.at (drop l.i l.months) (drop l.i l.spans))
+    let first = l.running.live.first in
+    let spans = l.running.spans in
+    (l.at ≤ rows_from + 4064 * l.i) × (month_place first l.month rows_from l.live-items spans ≡ month_place first l.month l.at (drop l.i l.live-items) (drop l.i spans))

@@ -7,5 +7,5 @@ use Rattle.scan.proofs.ladders.Given as goal
 abbrev pub invariant-loop-i : goal.invariant-loop-i
 invariant-loop-i l = record {
   six : length l.spans ≡ 6;
-  passed : ladder_spans l.day l.first [] l.month-items (map scanned l.rows) ≡ ladder_spans l.day l.first (take l.i l.spans) (drop l.i l.month-items) (map scanned l.rest);
+  passed : ladder_spans l.day l.live.first [] l.month-items (map scanned l.rows) ≡ ladder_spans l.day l.live.first (take l.i l.spans) (drop l.i l.month-items) (map scanned l.rest);
 }

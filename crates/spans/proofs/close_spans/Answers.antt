@@ -10,4 +10,4 @@ unfolding close_spans
 returns c =
     let l = c.loop-i in
     let a = c.args in
-    filled (pair a.months a.held a.close) l.spans l.i c.loop-i-test.false l.invariant.six l.invariant.so_far
+    filled (pair a.months a.held a.close.hundredths) l.spans l.i c.loop-i-test.false l.invariant.six l.invariant.so_far

@@ -12,4 +12,4 @@ pair months held close i =
     close_pair (get_or held i []) (required_low (tier_of (get_or months 0 0) (get_or months i 0)) close) (required_high (tier_of (get_or months 0 0) (get_or months i 0)) close)
 
 abbrev pub invariant-loop-i : goal.invariant-loop-i
-invariant-loop-i l = record { six : length l.spans ≡ 6; so_far : Filled (pair l.fn.months l.fn.held l.fn.close) l.spans l.i }
+invariant-loop-i l = record { six : length l.spans ≡ 6; so_far : Filled (pair l.fn.months l.fn.held l.fn.close.hundredths) l.spans l.i }

@@ -1,4 +1,4 @@
--- `listing::session_refusal` meets its contract.
+-- `listing::session_listing` meets its contract.
 -- Assumes nothing.
 use mathlib.Core.Path.{◌≡◌, sym, ◌∙◌}
 use mathlib.Core.List.{List}
@@ -19,7 +19,7 @@ use Rattle.calls.specs.declared.Call.TheVariants.{Session}
 use Rattle.calls.specs.Listing.{number}
 use Rattle.listing.specs.Refusals.{listing_cause}
 use Rattle.listing.proofs.Causes.{late, no-session, session_goes}
-use Rattle.listing.proofs.session_refusal.Goals as goal
+use Rattle.listing.proofs.session_listing.Goals as goal
 
 -- the day is the next session's, and the causes left go by its first live month
 goes : (cal bs : List ℕ) (day close : ℕ) {before next : ℕ} → before ≡ at16 bs 2 → next ≡ next_session cal before → day ≡ next
@@ -32,20 +32,24 @@ pub next_session-next-requires : goal.next_session-next-requires
 unfolding moment_of
 next_session-next-requires c = search rules
 
-pub returns-then-day-next : goal.returns-then-day-next
+pub returns-then-day-from-clause-cause : goal.returns-then-day-from-clause-cause
 unfolding body_of moment_of
-returns-then-day-next c =
+returns-then-day-from-clause-cause c =
     let a = c.args in
-    sym (no-session a.calendar.now a.day a.close (body_of a.register.now) (rw (c.next_session-next.ensures, c.word-before.ensures) at c.if-day-next.true))
+    sym (no-session a.before.calendar.bytes.now a.day a.close (body_of a.register.now) (rw (c.from.ensures, c.next_session-next.ensures, c.word-last.ensures) at c.if-day-from.true))
 
-pub returns-then-next-ge-DAYS : goal.returns-then-next-ge-DAYS
-returns-then-next-ge-DAYS c =
+pub returns-then-next-ge-DAYS-clause-cause : goal.returns-then-next-ge-DAYS-clause-cause
+returns-then-next-ge-DAYS-clause-cause c =
     let a = c.args in
-    sym (goes a.calendar.now a.register.now a.day a.close c.word-before.ensures c.next_session-next.ensures c.if-day-next.false
-    ∙ late _ _ (rw (live_past (expiry_of a.calendar.now) (expiry-below _) c.next_session-next.result c.if-next-ge-DAYS.true) (omega arith)))
+    let cal = a.before.calendar.bytes.now in
+    sym (goes cal a.register.now a.day a.close c.word-last.ensures c.next_session-next.ensures (c.if-day-from.false ∙ c.from.ensures)
+    ∙ late _ _ (rw (live_past (expiry_of cal) (expiry-below _) c.next_session-next.result c.if-next-ge-DAYS.true) (omega arith)))
 
-pub returns : goal.returns
-returns c =
+pub returns-clause-cause : goal.returns-clause-cause
+returns-clause-cause c =
     let a = c.args in
-    rw c.first_live.ensures at c.listing_refusal.ensures
-    ∙ sym (goes a.calendar.now a.register.now a.day a.close c.word-before.ensures c.next_session-next.ensures c.if-day-next.false)
+    c.listing_on.ensures.cause
+    ∙ sym (goes a.before.calendar.bytes.now a.register.now a.day a.close c.word-last.ensures c.next_session-next.ensures (c.if-day-from.false ∙ c.from.ensures))
+
+pub returns-clause-listing : goal.returns-clause-listing
+returns-clause-listing c = rw (← (c.if-day-from.false ∙ c.from.ensures)) at c.listing_on.ensures.listing
