@@ -1,14 +1,14 @@
 -- `dates::month_of` meets its contract. The loop's invariant: the month's first day is at most the day.
 -- Assumes nothing.
 use mathlib.Core.Path.{sym}
-use Prim.Native.Nat.{◌+◌, ◌*◌, ◌/◌, ◌%◌, ◌<◌}
+use Prim.Native.Nat.{◌+◌, ◌*◌, ◌/◌, ◌<◌}
 use native.Mathlib.Omega.{arith}
 use Rattle.dates.specs.Months.{month_count}
 use Rattle.dates.proofs.MonthLaws.{guessed, first-day_lt, last-day, month_of_is}
 use Rattle.dates.proofs.month_of.Goals as goal
 
 pub loop-month-init : goal.loop-month-init
-loop-month-init c = omega (arith, guessed (c.args.day / 61 * 2 + c.args.day % 61 / 31) (omega arith))
+loop-month-init c = omega (arith, c.from.ensures, guessed (c.from.result * 2 / 61) (omega (arith, c.from.ensures)))
 
 pub loop-month-preserved : goal.loop-month-preserved
 loop-month-preserved c =
