@@ -33,7 +33,6 @@ impl Field {
 // from 0.
 #[derive(Clone, Copy, PartialEq, Eq, Debug)]
 enum Different {
-    Nothing,
     Field(Field),
     Announcement(usize, Announcement, Announcement),
     Row(usize),
@@ -89,22 +88,22 @@ pub struct Difference<'a> {
 }
 
 impl Difference<'_> {
-    fn first(&self) -> Different {
+    fn first(&self) -> Option<Different> {
         let given = self.given;
         let register = self.register;
         if given.bytes == register.bytes {
-            return Different::Nothing;
+            return None;
         }
         let mut fields = FIELDS.iter();
         if let Some(field) = fields.find(|field| field.of(given) != field.of(register)) {
-            return Different::Field(*field);
+            return Some(Different::Field(*field));
         }
         let place = first_other(given.bytes, register.bytes);
-        match reading::part_at(place) {
+        Some(match reading::part_at(place) {
             Part::Announcement(number) => self.announcement(number, place),
             Part::Row(number) if given.row(number).is_some() => Different::Row(number),
             _ => Different::Byte(place),
-        }
+        })
     }
 
     // The announcement of a number, where so many wait; else the byte at its place.
@@ -182,13 +181,13 @@ fn put_announcements<W: fmt::Write>(
 impl Display for Difference<'_> {
     fn fmt<W: fmt::Write>(&self, f: &mut fmt::Formatter<W>) -> fmt::Result {
         match self.first() {
-            Different::Nothing => f.write_str("no difference")?,
-            Different::Field(field) => self.put_field(f, field)?,
-            Different::Announcement(number, gives, has) => {
+            None => f.write_str("no difference")?,
+            Some(Different::Field(field)) => self.put_field(f, field)?,
+            Some(Different::Announcement(number, gives, has)) => {
                 put_announcements(f, number, gives, has)?;
             }
-            Different::Row(number) => self.put_rows(f, number)?,
-            Different::Byte(place) => self.put_byte(f, place)?,
+            Some(Different::Row(number)) => self.put_rows(f, number)?,
+            Some(Different::Byte(place)) => self.put_byte(f, place)?,
         }
         f.write_str("\n")
     }

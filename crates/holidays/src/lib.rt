@@ -40,6 +40,7 @@ impl Display for Reason {
 pub type Refused<'a> = lines::Refused<'a, Reason>;
 
 // Why no calendar is made. It is of no use then.
+// Kept: an Option of the line would hold as much, but a None in it would not say that the length is wrong.
 #[derive(Clone, Copy, Debug)]
 pub enum Fault<'a> {
     // The calendar has not 4,566 bytes.
@@ -67,6 +68,7 @@ fn weight(day: u32) -> u8
 fn set_session(calendar: &mut [u8], day: u32, has: bool)
     ensures { calendar.new ≡ cond has (with_session calendar.old day) (without_session calendar.old day) }
 {
+    // Kept: the cast, since `try_from` would need an answer for a byte's place that no usize holds.
     let at = (day / 8) as usize;
     if at < calendar.len() {
         let weight = weight(day);

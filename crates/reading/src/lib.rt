@@ -68,6 +68,7 @@ impl<'a> Register<'a> {
         self.byte(STATUS)
     }
 
+    // Kept: the three below are a line each; one function for them would be asked for a place, which this crate alone knows.
     // How many announcements wait.
     pub fn waiting(self) -> u32 {
         u32::from(self.byte(WAITING))
@@ -141,6 +142,7 @@ impl<'a> Register<'a> {
     }
 
     // A month's rows; none where it is not live.
+    // Kept: an Option would make two answers for no rows, and those who go over them would make it an empty list again.
     pub fn rows_of(self, month: u32) -> Rows<'a> {
         self.rows().of(month)
     }

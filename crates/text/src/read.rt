@@ -50,12 +50,9 @@ fn read_named_month(text: &[u8]) -> Option<u32> {
 }
 
 // A month as 2026-12 or as a number.
+// Kept: with `read_day` it shares one call of std, which a function for both would have to be told by two closures.
 pub fn read_month(text: &[u8]) -> Option<u32> {
-    if text.contains(&b'-') {
-        read_named_month(text)
-    } else {
-        read_number(text)
-    }
+    read_named_month(text).or(read_number(text))
 }
 
 // The day of a month, counted from 1.
@@ -76,11 +73,7 @@ fn read_date(text: &[u8]) -> Option<u32> {
 
 // A day as 2026-11-16 or as a number.
 pub fn read_day(text: &[u8]) -> Option<u32> {
-    if text.contains(&b'-') {
-        read_date(text)
-    } else {
-        read_number(text)
-    }
+    read_date(text).or(read_number(text))
 }
 
 // What stands behind the point, in hundredths: one or two digits.
@@ -106,11 +99,7 @@ fn read_points(text: &[u8], mark: u8) -> Option<u32> {
 
 // A close as 2413.37, or in hundredths.
 pub fn read_close(text: &[u8]) -> Option<u32> {
-    if text.contains(&b'.') {
-        read_points(text, b'.')
-    } else {
-        read_number(text)
-    }
+    read_points(text, b'.').or(read_number(text))
 }
 
 // A close as 2413,37, which is not taken: a message shows how to write it.

@@ -1,10 +1,18 @@
 // What several answers tell: how a refusal begins, the live months, a tier's grid, and the grid prices around one that is not
 // on it.
 use base::{Cause, Tier};
+use dates::{DAYS, MONTHS};
+use phrases::Words;
 use reading::Register;
 use std::fmt;
 use std::fmt::Display;
 use text::{Date, Month};
+
+// The last day and the last month of a calendar.
+// Kept: the casts, since a constant cannot call `from`.
+pub const LAST_DAY: u32 = DAYS as u32 - 1;
+
+pub const LAST_MONTH: u32 = MONTHS as u32 - 1;
 
 // No price is as high as this: a name has four digits for it.
 const PAST_PRICES: u32 = 10000;
@@ -93,13 +101,16 @@ impl Neighbours {
 
 impl Display for Neighbours {
     fn fmt<W: fmt::Write>(&self, f: &mut fmt::Formatter<W>) -> fmt::Result {
-        match (self.below(), self.above()) {
-            (None, None) => Ok(()),
-            (None, Some(above)) => write!(f, "\n  the nearest: {above} (above)"),
-            (Some(below), None) => write!(f, "\n  the nearest: {below} (below)"),
-            (Some(below), Some(above)) => {
-                write!(f, "\n  the nearest: {below} (below) {above} (above)")
-            }
-        }
+        let below = beside(self.below(), " (below)");
+        let above = beside(self.above(), " (above)");
+        write!(f, "\n  the nearest:{below}{above}")
+    }
+}
+
+// The grid price on a side of the asked one, where there is one.
+fn beside(price: Option<u32>, side: &'static str) -> Words<u32> {
+    match price {
+        Some(price) => Words::Around(" ", price, side),
+        None => Words::Alone(""),
     }
 }

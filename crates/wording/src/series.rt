@@ -1,19 +1,17 @@
 // Causes 27 to 29: names of series.
-use crate::parts::{Bands, Refused};
+use crate::parts::{Bands, LAST_MONTH, Refused};
 use base::{Cause, Tier};
-use dates::MONTHS;
 use names::LENGTH;
 use std::fmt;
 use std::fmt::Display;
 use text::Month;
-
-const LAST_MONTH: u32 = MONTHS as u32 - 1;
 
 // How a name is made, and one for an example.
 const FORM: &str =
     "OW20, a letter, two digits of the year, four of the price: OW20L262400 is the call of 2026-12 at 2400";
 
 // What may stand at a place of a name, counted from 0.
+// Kept: the match over places; an enum of what stands there would be made by it, and matched again for the four texts.
 fn due_at(place: u16) -> &'static str {
     match place {
         0..=3 => "the first four are OW20, in capitals",
@@ -29,24 +27,30 @@ pub struct NameRefusal(pub Cause);
 
 impl Display for NameRefusal {
     fn fmt<W: fmt::Write>(&self, f: &mut fmt::Formatter<W>) -> fmt::Result {
-        write!(f, "{}", Refused(self.0))?;
+        let refused = Refused(self.0);
         match self.0 {
-            Cause::NameLength => write!(f, "a name has {LENGTH} characters\n  {FORM}\n"),
-            Cause::NameSeries => write!(
-                f,
-                "there is no such series\n  \
-                its price must be on the grid of tier N: {}\n  \
-                its month must be one up to {}, its type call or put\n",
-                Bands(Tier::N),
-                Month(LAST_MONTH),
-            ),
-            Cause::NameByte(place) => write!(
-                f,
-                "character {} of the name cannot stand there\n  {}\n  {FORM}\n",
-                u32::from(place) + 1,
-                due_at(place),
-            ),
-            _ => f.write_str("\n"),
+            Cause::NameLength => {
+                write!(f, "{refused}a name has {LENGTH} characters\n  {FORM}\n")
+            }
+            Cause::NameSeries => {
+                let bands = Bands(Tier::N);
+                let last = Month(LAST_MONTH);
+                write!(
+                    f,
+                    "{refused}there is no such series\n  \
+                    its price must be on the grid of tier N: {bands}\n  \
+                    its month must be one up to {last}, its type call or put\n",
+                )
+            }
+            Cause::NameByte(place) => {
+                let number = u32::from(place) + 1;
+                let due = due_at(place);
+                write!(
+                    f,
+                    "{refused}character {number} of the name cannot stand there\n  {due}\n  {FORM}\n"
+                )
+            }
+            _ => writeln!(f, "{refused}"),
         }
     }
 }
