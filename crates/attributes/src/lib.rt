@@ -81,6 +81,7 @@ impl Attributes {
 fn ended(path: &[u8]) -> [u8; PATH_MAX]
     ensures { Ended result }
 {
+    // Kept: no length is kept beside it: the zero ends it, as C reads it.
     let mut name = [0; PATH_MAX];
     let n = path.len().min(PATH_MAX);
     name[..n].copy_from_slice(&path[..n]);

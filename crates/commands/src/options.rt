@@ -85,6 +85,7 @@ pub fn parts(word: &[u8]) -> (&[u8], Option<&[u8]>) {
 
 impl Opt {
     fn row(self) -> &'static Row {
+        // Kept: of an enum std makes a number by a cast alone; a From would be a match that tells the table's order again.
         &TABLE[self as usize]
     }
 
@@ -111,6 +112,7 @@ impl Opt {
 }
 
 impl Display for Opt {
+    // Kept: the same body as that of Command; one impl for both, over a trait of both, is none that Rust's rules allow.
     fn fmt<W: fmt::Write>(&self, f: &mut fmt::Formatter<W>) -> fmt::Result {
         f.write_str(self.row().name)
     }

@@ -332,6 +332,7 @@ static TABLE: [Row; 16] = [
 
 impl Command {
     fn row(self) -> &'static Row {
+        // Kept: of an enum std makes a number by a cast alone; a From would be a match that tells the table's order again.
         &TABLE[self as usize]
     }
 
@@ -346,6 +347,7 @@ impl Command {
     }
 
     // The first form that has room for so many words; the last one where none has.
+    // Kept: no Option: what is told of too many words is told by the last form, which each caller would make of a None.
     pub fn form(self, words: usize) -> Form {
         let row = self.row();
         match row.longer {
@@ -375,6 +377,7 @@ impl Command {
 }
 
 impl Display for Command {
+    // Kept: the same body as that of Opt; one impl for both, over a trait of both, is none that Rust's rules allow.
     fn fmt<W: fmt::Write>(&self, f: &mut fmt::Formatter<W>) -> fmt::Result {
         f.write_str(self.row().name)
     }

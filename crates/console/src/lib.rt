@@ -53,6 +53,7 @@ fn ask(system: &System, question: Question) -> Result<Status, Trouble> {
 
 fn act(system: &System, command: Command, room: &mut [u8]) -> Result<Status, Trouble> {
     guard::check(system, command)?;
+    // Kept: the one match over the commands, each with what it reads; a table of functions would want one signature for all.
     match command {
         Command::Calendar => answers::make_calendar(system),
         Command::Check => answers::check(system),

@@ -1,7 +1,7 @@
 -- The names of a file that is replaced.
 -- Assumes nothing.
-use Rattle.std.specs.Prelude.{List, ℕ, [], ◌∷◌, ◌++◌}
+use Rattle.std.specs.Prelude.{List, ℕ, ◌++◌, codes}
 
--- the new file beside that of a path: .new stands behind its name
+-- the new file beside that of a path
 abbrev pub new_name : List ℕ → List ℕ
-new_name path = path ++ 46 ∷ 110 ∷ 101 ∷ 119 ∷ []
+new_name path = path ++ codes ".new"

@@ -73,7 +73,7 @@ impl<'a> Journal<'a> {
     // That it has so many bytes.
     fn check_size(&self, size: usize) -> Result<(), Trouble> {
         match self.system.end(&self.file) {
-            Ok(end) if end == size as u64 => Ok(()),
+            Ok(end) if usize::try_from(end) == Ok(size) => Ok(()),
             Ok(_) => {
                 Err(complain(
                     self.system,
@@ -90,8 +90,10 @@ impl<'a> Journal<'a> {
         if !read.is_cut() {
             return Ok(());
         }
+        // Kept: u64 has no From of a usize, and try_from would need an answer for what does not happen.
+        let whole = read.whole as u64;
         self.system
-            .truncate(&self.file, read.whole as u64)
+            .truncate(&self.file, whole)
             .map_err(|error| self.fail(error))?;
         note(
             self.system,

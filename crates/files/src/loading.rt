@@ -10,6 +10,7 @@ fn read_whole(
     system: &System,
     from: Source<'_>,
     path: &[u8],
+    // Kept: the caller lends the room: one of this crate's own would have the length of the longest file for each read.
     buffer: &mut [u8],
 ) -> Result<usize, Trouble>
     ensures { IfOk result (λ n. n ≤ length buffer.new) }
@@ -33,6 +34,7 @@ fn read_whole(
 }
 
 // Reads the whole file to the start of the buffer and answers how long it is; none where there is no such file.
+// Kept: as read_whole.
 pub fn load(system: &System, path: &[u8], buffer: &mut [u8]) -> Result<Option<usize>, Trouble>
     ensures { IfOk result (λ found. IfSome found (λ n. n ≤ length buffer.new)) }
 {
@@ -44,6 +46,7 @@ pub fn load(system: &System, path: &[u8], buffer: &mut [u8]) -> Result<Option<us
 }
 
 // The same, where - is standard input.
+// Kept: as read_whole.
 pub fn load_text(system: &System, path: &[u8], buffer: &mut [u8]) -> Result<Option<usize>, Trouble>
     ensures { IfOk result (λ found. IfSome found (λ n. n ≤ length buffer.new)) }
 {
@@ -55,9 +58,11 @@ pub fn load_text(system: &System, path: &[u8], buffer: &mut [u8]) -> Result<Opti
 }
 
 // The first bytes of a file; none where they cannot be had.
+// Kept: no Option: its one caller would make the empty text of a None, since such a file is known by its length alone.
 pub fn peek(system: &System, path: &[u8]) -> Text<PATH_MAX> {
     let mut first = Text::new();
     if let Ok(file) = system.open_read(path) {
+        // Kept: what is read is put into a room of zeros, and a text, which keeps the length, has it at once.
         let mut room = [0; PATH_MAX];
         let n = system.read_full(Source::File(&file), &mut room);
         first.put(&room[..n]);

@@ -111,6 +111,7 @@ fn folder_of(system: &System, path: &[u8]) -> Option<Attributes> {
 }
 
 // Whether two names would be those of one file, if there were one.
+// Kept: no PartialEq, here and below: that asks no system, tells no trouble, and would call two names equal that are not.
 fn is_same_place(system: &System, a: &[u8], b: &[u8]) -> bool {
     let (_, name_a) = split(a);
     let (_, name_b) = split(b);
@@ -118,6 +119,7 @@ fn is_same_place(system: &System, a: &[u8], b: &[u8]) -> bool {
 }
 
 // The same of two names that no file has, links followed.
+// Kept: as is_same_place.
 fn is_same_missing(system: &System, a: &[u8], b: &[u8]) -> Result<bool, Trouble> {
     let real_a = follow(system, a);
     let real_b = follow(system, b);
@@ -134,6 +136,7 @@ fn is_known_same(system: &System, a: &[u8], b: &[u8]) -> Result<bool, Trouble> {
 }
 
 // Whether two names lead to one file, be it there or not. Those of which that cannot be known, which is told, count as one.
+// Kept: as is_same_place.
 pub fn is_same(system: &System, a: &[u8], b: &[u8]) -> bool {
     is_known_same(system, a, b).unwrap_or(true)
 }

@@ -27,6 +27,7 @@ const LIKELY: [Error; 13] = [
 #[derive(Clone, Copy, Debug)]
 pub struct Trouble;
 
+// Kept: terminal has the same; shared it would be public, and promise nothing, since clauses do not see what is displayed.
 fn words(what: impl Display + Drop) -> Text<WORDS> {
     let mut words = Text::new();
     words.say(what);

@@ -10,6 +10,7 @@ use lines::Words;
 use system::System;
 
 // What has a name.
+// Kept: an Option of an Option says the same two kinds of none without their names, and both are asked for.
 #[derive(Clone, Copy, PartialEq, Eq, Debug)]
 pub enum Found {
     // Nothing, or no regular file.
@@ -20,6 +21,7 @@ pub enum Found {
 }
 
 // Tag and length of the field of a day.
+// Kept: a const has no try_from, and to read the length back from its two bytes and compare it is four lines for this one.
 const DAY_BEGINS: [u8; 3] = [DAY_TAG, DAY_LENGTH as u8, 0];
 
 // So many lines are looked at for the first that says something.

@@ -31,6 +31,7 @@ impl Display for Version {
 }
 
 fn text(command: Command) -> &'static str {
+    // Kept: one arm a command; a table of the texts would have as many lines, and its order to be that of the commands.
     match command {
         Command::Start => START,
         Command::Session => SESSION,

@@ -31,45 +31,52 @@ pub struct Place {
 // Room for a line, and for the line feed before it.
 const LINE: usize = 128;
 
-// The text has `size` bytes in the file, and a line feed more where that was lacking.
-fn judged(
-    system: &System,
-    journal: Text<PATH_MAX>,
-    text: &[u8],
+// A journal as it was read. Its text has a line feed more than the file where that was lacking.
+#[derive(Drop)]
+struct Loaded<'a> {
+    name: Text<PATH_MAX>,
+    text: &'a [u8],
     size: usize,
-    register: Register<'_>,
-    entry: Entry,
-) -> Result<Kept, Trouble> {
-    let named = Journal {
-        system,
-        path: journal.as_bytes(),
-    };
-    let begins = matches!(entry.call, Call::Start(_, _));
-    match named.judge(text, register, begins)? {
-        Standing::InStep(_) => {
-            let lacks_feed = size < text.len();
-            let whole = if lacks_feed {
-                size
-            } else {
-                journal::whole(text).len()
-            };
-            Ok(Kept::Behind(Place {
-                journal,
-                read: Extent { whole, size },
-                lacks_feed,
-            }))
+}
+
+impl Loaded<'_> {
+    // Where a line goes that is put behind it.
+    fn place(self) -> Place {
+        let Loaded { name, text, size } = self;
+        let lacks_feed = size < text.len();
+        let whole = if lacks_feed {
+            size
+        } else {
+            journal::whole(text).len()
+        };
+        Place {
+            journal: name,
+            read: Extent { whole, size },
+            lacks_feed,
         }
-        // by this call, or by another that is to be completed first
-        Standing::Ahead(last) => {
-            if entry.answer.is_err() || last.call != entry.call {
-                return Err(named.complain_way(Way::Ahead(last)));
+    }
+
+    // How it is for a call with its answer, if it belongs to the register.
+    fn judge(self, system: &System, register: Register<'_>, entry: Entry) -> Result<Kept, Trouble> {
+        let named = Journal {
+            system,
+            path: self.name.as_bytes(),
+        };
+        let begins = matches!(entry.call, Call::Start(_, _));
+        match named.judge(self.text, register, begins)? {
+            Standing::InStep(_) => Ok(Kept::Behind(self.place())),
+            // by this call, or by another that is to be completed first
+            Standing::Ahead(last) => {
+                if entry.answer.is_err() || last.call != entry.call {
+                    return Err(named.complain_way(Way::Ahead(last)));
+                }
+                files::note(
+                    system,
+                    named.path,
+                    "has this call already, from a run that was cut off before it wrote the register",
+                );
+                Ok(Kept::Already)
             }
-            files::note(
-                system,
-                named.path,
-                "has this call already, from a run that was cut off before it wrote the register",
-            );
-            Ok(Kept::Already)
         }
     }
 }
@@ -82,32 +89,37 @@ pub fn look(
     entry: Entry,
     room: &mut [u8],
 ) -> Result<Kept, Trouble> {
-    let Some(journal) = commands::value(system, Opt::Journal) else {
+    let Some(name) = commands::value(system, Opt::Journal) else {
         return Ok(Kept::Unasked);
     };
-    match files::load(system, journal.as_bytes(), room)? {
+    match files::load(system, name.as_bytes(), room)? {
         Some(size) => {
             if room.len().saturating_sub(LINE) < size {
                 return Err(files::complain(
                     system,
-                    journal.as_bytes(),
+                    name.as_bytes(),
                     "it is full: a journal has 4,194,304 bytes at most",
                 ));
             }
             let text = journal::ended(room, size);
-            judged(system, journal, text, size, register, entry)
+            Loaded { name, text, size }.judge(system, register, entry)
         }
         // only a start may do without its journal: it makes one
         None => {
             if !matches!(entry.call, Call::Start(_, _)) {
                 return Err(files::complain(
                     system,
-                    journal.as_bytes(),
+                    name.as_bytes(),
                     "there is no such journal: look at the name\n  \
                     only start makes one; a lost one comes from a backup, or its calls are written by hand, one a line",
                 ));
             }
-            judged(system, journal, b"", 0, register, entry)
+            let journal = Loaded {
+                name,
+                text: b"",
+                size: 0,
+            };
+            journal.judge(system, register, entry)
         }
     }
 }

@@ -29,6 +29,7 @@ pub struct Found<'a> {
     pub first: Option<Call>,
     pub last: Option<Last<'a>>,
     // Whether the register that is looked for was what the calls gave up to some line.
+    // Kept: no other field depends on it; of an Option of that line nobody would read the line.
     pub passed: bool,
     // The first line that tells another answer than its call gave.
     pub other: Option<Otherwise<'a>>,

@@ -57,6 +57,7 @@ fn lacks_announcements(given: Register<'_>, register: Register<'_>) -> bool {
         return false;
     };
     let had = given.waiting();
+    // Kept: usize has no From of a u32; tried: `count`, a usize, does not prove, since no clause bounds the announcements.
     for waits in register.announcements().skip(had as usize) {
         let call = Call::Announce(waits.month, waits.price);
         let _ = calling::make(given.calendar, &mut copy, call);
@@ -110,6 +111,7 @@ impl<'a> Way<'a> {
         match self {
             Way::Ahead(last) => put_completion(out, last, names, file),
             Way::Announcements { register, had } => {
+                // Kept: as in lacks_announcements.
                 for waits in register.announcements().skip(had as usize) {
                     let month = Month(waits.month);
                     let price = waits.price;

@@ -1,5 +1,5 @@
 // Why a call of the system failed.
-use crate::{Stream, System};
+use crate::System;
 use std::fmt::Display;
 use std::io::ErrorKind;
 use std::{fmt, io, str};

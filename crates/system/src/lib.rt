@@ -46,6 +46,7 @@ impl System {
 
     // Argument i; none where there is none, or where it does not fit.
     pub fn argument(&self, i: usize) -> Option<Text<PATH_MAX>> {
+        // Kept: std puts the argument into a room of zeros, and a text, which keeps the length, has it at once.
         let mut room = [0; PATH_MAX];
         let n = self.rt.arg(i, &mut room).ok()?;
         let mut argument = Text::new();

@@ -10,20 +10,6 @@ use text::Text;
 // The last of the standard streams.
 const LAST_STREAM: i32 = 2;
 
-// Opens for reading and writing a file that is there.
-fn to_update() -> OpenOptions {
-    let mut options = OpenOptions::new();
-    options.read(true).write(true);
-    options
-}
-
-// Makes a file that is not there, for writing.
-fn to_create() -> OpenOptions {
-    let mut options = OpenOptions::new();
-    options.write(true).create_new(true);
-    options
-}
-
 // A path as text. Where it is none, or longer than one can be, the error says so.
 fn text_of(path: &[u8]) -> Result<&str, Error> {
     if PATH_MAX <= path.len() {
@@ -33,28 +19,32 @@ fn text_of(path: &[u8]) -> Result<&str, Error> {
 }
 
 impl System {
-    fn open(&self, how: OpenOptions, path: &[u8]) -> Result<File, Error> {
+    fn open(&self, how: &OpenOptions, path: &[u8]) -> Result<File, Error> {
         Ok(how.open(&self.rt, text_of(path)?)?)
     }
 
+    // Kept: this, unlink and metadata are one call of std each; one function for the three would be handed that call by each.
     pub fn open_read(&self, path: &[u8]) -> Result<File, Error> {
         Ok(fs::open(&self.rt, text_of(path)?)?)
     }
 
     // For reading and writing; its bytes stay as they are.
+    // Kept: this and create hand `open` what they differ in; one for both would make each caller do so.
     pub fn open_update(&self, path: &[u8]) -> Result<File, Error> {
-        self.open(to_update(), path)
+        self.open(OpenOptions::new().read(true).write(true), path)
     }
 
     // Makes a file, for writing. It fails where the name is taken.
+    // Kept: as open_update.
     pub fn create(&self, path: &[u8]) -> Result<File, Error> {
-        self.open(to_create(), path)
+        self.open(OpenOptions::new().write(true).create_new(true), path)
     }
 
     pub fn rename(&self, from: &[u8], to: &[u8]) -> Result<(), Error> {
         Ok(fs::rename(&self.rt, text_of(from)?, text_of(to)?)?)
     }
 
+    // Kept: as open_read.
     pub fn unlink(&self, path: &[u8]) -> Result<(), Error> {
         Ok(fs::remove_file(&self.rt, text_of(path)?)?)
     }
@@ -84,6 +74,7 @@ impl System {
     }
 
     // What is known of a file by its name, links followed.
+    // Kept: as open_read.
     pub fn metadata(&self, path: &[u8]) -> Result<Metadata, Error> {
         Ok(fs::metadata(&self.rt, text_of(path)?)?)
     }

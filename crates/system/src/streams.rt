@@ -40,6 +40,7 @@ impl System {
     }
 
     // Puts what one read gives at the start of the buffer, and answers how many bytes.
+    // Kept: the caller lends the room: one of this crate's own would have the length of the longest file for each read.
     pub fn read_once(&self, from: Source<'_>, buffer: &mut [u8]) -> Result<usize, Error>
         ensures { IfOk result (λ n. n ≤ length buffer.new) }
     {
@@ -50,6 +51,7 @@ impl System {
     }
 
     // Reads until the buffer is full, the input ends or a read fails, and answers how many bytes are at its start.
+    // Kept: as read_once.
     pub fn read_full(&self, from: Source<'_>, buffer: &mut [u8]) -> usize
         ensures { result ≤ length buffer.new }
     {

@@ -125,6 +125,7 @@ pub fn whole(
 }
 
 // Fills the buffer from the file that word i names.
+// Kept: the caller lends the room: one of this crate's own would have the length of the longest file for each read.
 pub fn file(system: &System, i: usize, buffer: &mut [u8]) -> Result<(), Trouble> {
     let path = commands::word(system, i);
     let found = files::load(system, path.as_bytes(), buffer)?;

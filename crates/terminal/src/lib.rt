@@ -18,6 +18,7 @@ use system::{Stream, System};
 use text::Text;
 
 // How a command ends that met no trouble.
+// Kept: no type of std says as much: an ExitCode is not compared, and Ok and Err within the Result of a trouble name neither.
 #[derive(Clone, Copy, PartialEq, Eq, Debug)]
 pub enum Status {
     Done,
@@ -28,6 +29,7 @@ pub enum Status {
 // Room for an answer.
 const ROOM: usize = 65536;
 
+// Kept: files has the same; shared it would be public, and promise nothing, since clauses do not see what is displayed.
 fn words(what: impl Display + Drop) -> Text<ROOM> {
     let mut words = Text::new();
     words.say(what);
