@@ -47,22 +47,6 @@ impl Display for SeriesName {
     }
 }
 
-// Words that stand alone, or around a value.
-#[derive(Drop)]
-pub enum Words<T> {
-    Alone(&'static str),
-    Around(&'static str, T, &'static str),
-}
-
-impl<T: Display> Display for Words<T> {
-    fn fmt<W: fmt::Write>(&self, f: &mut fmt::Formatter<W>) -> fmt::Result {
-        match self {
-            Words::Alone(words) => f.write_str(words),
-            Words::Around(before, value, behind) => write!(f, "{before}{value}{behind}"),
-        }
-    }
-}
-
 // Why a row was listed.
 #[derive(Clone, Copy, PartialEq, Eq, Debug)]
 pub struct Origin(pub u32);

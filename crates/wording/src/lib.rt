@@ -30,14 +30,8 @@ pub struct CallRefusal<'a> {
 
 impl Display for CallRefusal<'_> {
     fn fmt<W: fmt::Write>(&self, f: &mut fmt::Formatter<W>) -> fmt::Result {
-        Refused(self.cause).fmt(f)?;
-        self.explained(f)
-    }
-}
-
-impl CallRefusal<'_> {
-    fn explained<W: fmt::Write>(&self, f: &mut fmt::Formatter<W>) -> fmt::Result {
         let register = self.register;
+        write!(f, "{}", Refused(self.cause))?;
         match (self.cause, self.call) {
             (Cause::StartDay, Call::Start(day, _)) => {
                 sessions::no_session(f, register.calendar, day)

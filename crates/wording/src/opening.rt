@@ -17,7 +17,7 @@ pub struct CalendarRefusal<'a> {
 
 impl Display for CalendarRefusal<'_> {
     fn fmt<W: fmt::Write>(&self, f: &mut fmt::Formatter<W>) -> fmt::Result {
-        Refused(self.cause).fmt(f)?;
+        write!(f, "{}", Refused(self.cause))?;
         calendar_refused(f, self.calendar, self.cause)
     }
 }
@@ -28,15 +28,13 @@ fn calendar_refused<W: fmt::Write>(
     cause: Cause,
 ) -> fmt::Result {
     match cause {
-        Cause::CalendarLength => {
-            let length = calendar.len();
-            write!(
-                f,
-                "the calendar has {length} bytes, not {CALENDAR_LENGTH}\n  \
-                look whether that file is the calendar\n  \
-                sindhopul calendar LIST FILE makes one from a list of days\n",
-            )
-        }
+        Cause::CalendarLength => write!(
+            f,
+            "the calendar has {} bytes, not {CALENDAR_LENGTH}\n  \
+            look whether that file is the calendar\n  \
+            sindhopul calendar LIST FILE makes one from a list of days\n",
+            calendar.len(),
+        ),
         Cause::CalendarTail => write!(
             f,
             "the calendar has a session after its last day, {}\n  \
@@ -51,30 +49,18 @@ fn calendar_refused<W: fmt::Write>(
 
 // 13.
 fn no_early_session<W: fmt::Write>(f: &mut fmt::Formatter<W>, month: u32) -> fmt::Result {
-    let days = EarlyDays(month);
-    let month = Month(month);
-    write!(
-        f,
-        "{month} has no session up to its third Friday\n{days}  \
-        mend the list of days and make the calendar anew: sindhopul calendar LIST FILE\n",
-    )
-}
-
-// The days of a month of which one needs a session.
-#[derive(Clone, Copy)]
-struct EarlyDays(u32);
-
-impl Display for EarlyDays {
-    fn fmt<W: fmt::Write>(&self, f: &mut fmt::Formatter<W>) -> fmt::Result {
-        match (lookup::first_day(self.0), lookup::third_friday(self.0)) {
-            (Some(first), Some(friday)) => {
-                let first = Date(first);
-                let friday = Date(friday);
-                writeln!(f, "  the calendar needs one from {first} to {friday}")
-            }
-            _ => Ok(()),
-        }
+    writeln!(f, "{} has no session up to its third Friday", Month(month))?;
+    if let (Some(first), Some(friday)) = (lookup::first_day(month), lookup::third_friday(month)) {
+        writeln!(
+            f,
+            "  the calendar needs one from {} to {}",
+            Date(first),
+            Date(friday)
+        )?;
     }
+    f.write_str(
+        "  mend the list of days and make the calendar anew: sindhopul calendar LIST FILE\n",
+    )
 }
 
 // The refusal of what is asked of any register, 11 to 17.
@@ -87,7 +73,7 @@ pub struct OpeningRefusal<'a> {
 // Kept: that of a calendar is alike, but one type for both is longer than their two lines.
 impl Display for OpeningRefusal<'_> {
     fn fmt<W: fmt::Write>(&self, f: &mut fmt::Formatter<W>) -> fmt::Result {
-        Refused(self.cause).fmt(f)?;
+        write!(f, "{}", Refused(self.cause))?;
         opening_refused(f, self.register, self.cause)
     }
 }
@@ -98,21 +84,26 @@ pub fn opening_refused<W: fmt::Write>(
     cause: Cause,
 ) -> fmt::Result {
     match cause {
-        Cause::RegisterLength => {
-            let length = register.bytes.len();
-            write!(
-                f,
-                "the register has {length} bytes, not {REGISTER_LENGTH}\n  \
-                look whether that file is the register\n  \
-                the journal makes it anew: sindhopul replay CALENDAR JOURNAL REGISTER\n",
-            )
-        }
+        Cause::RegisterLength => write!(
+            f,
+            "the register has {} bytes, not {REGISTER_LENGTH}\n  \
+            look whether that file is the register\n  \
+            the journal makes it anew: sindhopul replay CALENDAR JOURNAL REGISTER\n",
+            register.bytes.len(),
+        ),
         Cause::RegisterForm => f.write_str(
             "this is no register of this calendar, or it was damaged\n  \
             look whether the two files belong together\n  \
             the journal makes it anew: sindhopul replay --force CALENDAR JOURNAL REGISTER\n",
         ),
-        Cause::Running => running(f, register),
+        Cause::Running => write!(
+            f,
+            "the register runs already, it stands at {}\n  \
+            start is for an empty register; go on with session:\n  \
+            sindhopul session CALENDAR REGISTER {} CLOSE\n",
+            Date(register.day()),
+            NextSession(register),
+        ),
         Cause::Empty => f.write_str(
             "the register is empty\n  \
             start it: sindhopul start CALENDAR REGISTER DAY CLOSE\n  \
@@ -121,16 +112,4 @@ pub fn opening_refused<W: fmt::Write>(
         ),
         _ => calendar_refused(f, register.calendar, cause),
     }
-}
-
-// 16.
-fn running<W: fmt::Write>(f: &mut fmt::Formatter<W>, register: Register<'_>) -> fmt::Result {
-    let day = Date(register.day());
-    let next = NextSession(register);
-    write!(
-        f,
-        "the register runs already, it stands at {day}\n  \
-        start is for an empty register; go on with session:\n  \
-        sindhopul session CALENDAR REGISTER {next} CLOSE\n",
-    )
 }

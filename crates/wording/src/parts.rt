@@ -2,7 +2,6 @@
 // on it.
 use base::{Cause, Tier};
 use dates::{DAYS, MONTHS};
-use phrases::Words;
 use reading::Register;
 use std::fmt;
 use std::fmt::Display;
@@ -101,16 +100,13 @@ impl Neighbours {
 
 impl Display for Neighbours {
     fn fmt<W: fmt::Write>(&self, f: &mut fmt::Formatter<W>) -> fmt::Result {
-        let below = beside(self.below(), " (below)");
-        let above = beside(self.above(), " (above)");
-        write!(f, "\n  the nearest:{below}{above}")
-    }
-}
-
-// The grid price on a side of the asked one, where there is one.
-fn beside(price: Option<u32>, side: &'static str) -> Words<u32> {
-    match price {
-        Some(price) => Words::Around(" ", price, side),
-        None => Words::Alone(""),
+        match (self.below(), self.above()) {
+            (None, None) => Ok(()),
+            (None, Some(above)) => write!(f, "\n  the nearest: {above} (above)"),
+            (Some(below), None) => write!(f, "\n  the nearest: {below} (below)"),
+            (Some(below), Some(above)) => {
+                write!(f, "\n  the nearest: {below} (below) {above} (above)")
+            }
+        }
     }
 }

@@ -27,30 +27,24 @@ pub struct NameRefusal(pub Cause);
 
 impl Display for NameRefusal {
     fn fmt<W: fmt::Write>(&self, f: &mut fmt::Formatter<W>) -> fmt::Result {
-        let refused = Refused(self.0);
+        write!(f, "{}", Refused(self.0))?;
         match self.0 {
-            Cause::NameLength => {
-                write!(f, "{refused}a name has {LENGTH} characters\n  {FORM}\n")
-            }
-            Cause::NameSeries => {
-                let bands = Bands(Tier::N);
-                let last = Month(LAST_MONTH);
-                write!(
-                    f,
-                    "{refused}there is no such series\n  \
-                    its price must be on the grid of tier N: {bands}\n  \
-                    its month must be one up to {last}, its type call or put\n",
-                )
-            }
-            Cause::NameByte(place) => {
-                let number = u32::from(place) + 1;
-                let due = due_at(place);
-                write!(
-                    f,
-                    "{refused}character {number} of the name cannot stand there\n  {due}\n  {FORM}\n"
-                )
-            }
-            _ => writeln!(f, "{refused}"),
+            Cause::NameLength => write!(f, "a name has {LENGTH} characters\n  {FORM}\n"),
+            Cause::NameSeries => write!(
+                f,
+                "there is no such series\n  \
+                its price must be on the grid of tier N: {}\n  \
+                its month must be one up to {}, its type call or put\n",
+                Bands(Tier::N),
+                Month(LAST_MONTH),
+            ),
+            Cause::NameByte(place) => write!(
+                f,
+                "character {} of the name cannot stand there\n  {}\n  {FORM}\n",
+                u32::from(place) + 1,
+                due_at(place),
+            ),
+            _ => f.write_str("\n"),
         }
     }
 }
