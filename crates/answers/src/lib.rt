@@ -42,10 +42,6 @@ fn answer(system: &System, what: impl Display + Drop) -> Result<Status, Trouble>
     terminal::say(system, Stream::Output, what, Status::Done)
 }
 
-fn answer_bytes(system: &System, bytes: &[u8]) -> Result<Status, Trouble> {
-    terminal::say_bytes(system, Stream::Output, bytes, Status::Done)
-}
-
 pub fn check(system: &System) -> Result<Status, Trouble> {
     let mut room = space::zeros::<ROOM>();
     let calendar = terminal::text(system, 2, &mut room)?;
@@ -97,7 +93,7 @@ fn all_rows(system: &System, register: Register<'_>) -> Result<Status, Trouble> 
             out.say(rows);
         }
     }
-    answer_bytes(system, out.as_bytes())
+    terminal::say_bytes(system, Stream::Output, out.as_bytes(), Status::Done)
 }
 
 fn rows(system: &System, register: Register<'_>) -> Result<Status, Trouble> {
@@ -115,7 +111,7 @@ fn draw(system: &System, register: Register<'_>) -> Result<Status, Trouble> {
     let mut out = Text::<OUTPUT_LENGTH>::new();
     out.say(Picture(register));
     if commands::is_stream(commands::word(system, 4).as_bytes()) {
-        return answer_bytes(system, out.as_bytes());
+        return terminal::say_bytes(system, Stream::Output, out.as_bytes(), Status::Done);
     }
     terminal::replace(system, 4, out.as_bytes())?;
     Ok(Status::Done)
@@ -167,6 +163,7 @@ fn read_name(system: &System) -> Result<Status, Trouble> {
     match names::read(commands::word(system, 2).as_bytes()) {
         Ok(Named { month, kind, price }) => {
             let month = Month(u32::from(month));
+            // Kept: Display of a kind would be in `names` for this place alone: `report` pads the word, a name has a letter.
             let kind = match kind {
                 Kind::Call => "call",
                 Kind::Put => "put",
@@ -196,7 +193,7 @@ fn write_name(system: &System) -> Result<Status, Trouble> {
             let mut line = Text::<16>::new();
             line.put(&name);
             line.put(b"\n");
-            answer_bytes(system, line.as_bytes())
+            terminal::say_bytes(system, Stream::Output, line.as_bytes(), Status::Done)
         }
         Err(cause) => terminal::refuse(system, NameRefusal(cause)),
     }

@@ -3,22 +3,8 @@
 
 use calls::Call;
 use files::Trouble;
-use replaying::NotRun;
 use space::MOST_CALLS;
 use system::System;
-
-fn complain(system: &System, path: &[u8], not_run: NotRun) -> Trouble {
-    files::complain(
-        system,
-        path,
-        match not_run {
-            NotRun::NotEmpty => "it was not run: the register to begin with is not empty",
-            NotRun::Lengths => {
-                "it was not run: a call lacks a pair or the room for its number, or is none of the three"
-            }
-        },
-    )
-}
 
 // Runs the whole lines of a journal from an empty register, by the call whose contract is the closing property.
 pub fn rebuild(
@@ -34,6 +20,6 @@ pub fn rebuild(
         system, path, refused,
     ))?;
     replaying::replay(calendar, &calls[..n], register, &mut numbers[..n]).map_err(
-        |not_run| complain(system, path, not_run),
+        |not_run| files::complain(system, path, format_args!("it was not run: {not_run}")),
     )
 }

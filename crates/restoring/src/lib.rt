@@ -4,7 +4,6 @@
 mod auditing;
 mod replacing;
 
-use base::Cause;
 use files::Trouble;
 use keeping::Journal;
 use layout::REGISTER_LENGTH;

@@ -7,7 +7,6 @@
 
 mod comments;
 
-use base::Cause;
 use calls::Call;
 use files::{NewFile, Saved, Target, Trouble};
 use keeping::{Journal, Standing};
@@ -160,34 +159,53 @@ fn strike_out(
     tell(system, last, register)
 }
 
-// Reads the register that this run has locked, and the journal of word 4, and how the two stand.
-fn read<'a>(
-    system: &System,
-    path: &[u8],
-    target: &'a Target,
-    calendar: &[u8],
-    register: &mut [u8],
-    room: &'a mut [u8],
-) -> Result<(Loaded<'a>, Standing<'a>), Trouble> {
-    let size = terminal::text(system, 4, room)?.len();
-    // a start that was cut off leaves no register
-    terminal::register_or_none(system, path, register)?;
-    let bytes = journal::ended(room, size);
-    let named = Journal {
-        system,
-        path: target.path(),
-    };
-    let register = Register {
-        calendar,
-        bytes: register,
-    };
-    let standing = named.judge(bytes, register, true)?;
-    let journal = Loaded {
-        target,
-        text: journal::whole(bytes),
-        size,
-    };
-    Ok((journal, standing))
+// The names of the register of word 3 and of the journal of word 4.
+#[derive(Drop)]
+struct Targets {
+    register: Target,
+    journal: Target,
+}
+
+impl Targets {
+    // Where both names are trouble, both are told.
+    fn named(system: &System) -> Result<Targets, Trouble> {
+        let register = terminal::followed(system, 3);
+        let journal = terminal::followed(system, 4);
+        let (register, journal) = (register?, journal?);
+        let register = Target::new(system, register);
+        let journal = Target::new(system, journal);
+        let (register, journal) = (register?, journal?);
+        Ok(Targets { register, journal })
+    }
+
+    // Reads the register, which this run has locked, and the journal, and how the two stand.
+    fn read<'a>(
+        &'a self,
+        system: &System,
+        calendar: &[u8],
+        register: &mut [u8],
+        room: &'a mut [u8],
+    ) -> Result<(Loaded<'a>, Standing<'a>), Trouble> {
+        let size = terminal::text(system, 4, room)?.len();
+        // a start that was cut off leaves no register
+        terminal::register_or_none(system, self.register.path(), register)?;
+        let bytes = journal::ended(room, size);
+        let named = Journal {
+            system,
+            path: self.journal.path(),
+        };
+        let register = Register {
+            calendar,
+            bytes: register,
+        };
+        let standing = named.judge(bytes, register, true)?;
+        let journal = Loaded {
+            target: &self.journal,
+            text: journal::whole(bytes),
+            size,
+        };
+        Ok((journal, standing))
+    }
 }
 
 // `room` is for the journal's text.
@@ -195,23 +213,10 @@ pub fn undo(system: &System, calendar: &[u8], room: &mut [u8]) -> Result<Status,
     if let Err(cause) = passing::check(calendar) {
         return terminal::refuse(system, CalendarRefusal { calendar, cause });
     }
-    // where both names are trouble, both are told
-    let register = terminal::followed(system, 3);
-    let journal = terminal::followed(system, 4);
-    let (register, journal) = (register?, journal?);
-    let register = Target::new(system, register);
-    let journal = Target::new(system, journal);
-    let (register, journal) = (register?, journal?);
-    let opened = register.lock(system, Some(&journal))?;
+    let targets = Targets::named(system)?;
+    let opened = targets.register.lock(system, Some(&targets.journal))?;
     let mut bytes = space::zeros::<REGISTER_LENGTH>();
-    match read(
-        system,
-        register.path(),
-        &journal,
-        calendar,
-        &mut bytes,
-        room,
-    ) {
+    match targets.read(system, calendar, &mut bytes, room) {
         Ok((journal, Standing::InStep(Some(last)))) => {
             take_back(system, opened, journal, last, calendar)
         }
