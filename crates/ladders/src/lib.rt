@@ -1,4 +1,5 @@
 // The ladders of a start or a session, written row by row.
+// Kept: the casts of prices. A price steps in 64 bits and is below 10,000; `try_from` would need an answer for what is proved not to happen.
 #![tactic(auto)]
 
 pub mod plans;
@@ -177,6 +178,7 @@ fn write_ladder<'a>(rest: &mut [u8], old: &'a [[u8; ROW_LENGTH]], plan: &Plan) -
     };
     let mut left = old;
     let mut at = 0;
+    // Kept: each price tells how far the next one is, so no range steps over them, and an iterator would take its turns as these.
     while price <= high {
         if stretch.end <= price {
             let found = plan.stretch_from(left, price);
