@@ -1,5 +1,4 @@
 // The ladders of a start or a session, written row by row.
-// Kept: the casts of prices. A price steps in 64 bits and is below 10,000; `try_from` would need an answer for what is proved not to happen.
 #![tactic(auto)]
 
 pub mod plans;
@@ -122,6 +121,7 @@ impl Plan {
         }
     }
 
+    // Kept: the casts of this file. A price steps in 64 bits and is below 10,000; `try_from` would need an answer for what never happens.
     // The rows from a price on: the first of the old rows where that is its row, else those that are added up to the next change.
     fn stretch_from<'a>(&self, old: &'a [[u8; ROW_LENGTH]], price: u64) -> Found<'a>
         requires { (0 < price) × (price < 10000) }
