@@ -1,4 +1,5 @@
 // The C interface: exports alone, each a total function over plain slices and numbers. include/sindhopul.h declares them.
+// Kept: the exports are alike by nature. C links each by its name, and each makes a struct of a Result.
 #![tactic(auto)]
 
 ghost use Rattle.std.specs.Prelude.{◌≡◌};

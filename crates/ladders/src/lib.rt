@@ -121,6 +121,7 @@ impl Plan {
         }
     }
 
+    // Kept: the casts of this file. A price steps in 64 bits and is below 10,000; `try_from` would need an answer for what never happens.
     // The rows from a price on: the first of the old rows where that is its row, else those that are added up to the next change.
     fn stretch_from<'a>(&self, old: &'a [[u8; ROW_LENGTH]], price: u64) -> Found<'a>
         requires { (0 < price) × (price < 10000) }
@@ -177,6 +178,7 @@ fn write_ladder<'a>(rest: &mut [u8], old: &'a [[u8; ROW_LENGTH]], plan: &Plan) -
     };
     let mut left = old;
     let mut at = 0;
+    // Kept: each price tells how far the next one is, so no range steps over them, and an iterator would take its turns as these.
     while price <= high {
         if stretch.end <= price {
             let found = plan.stretch_from(left, price);

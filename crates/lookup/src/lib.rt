@@ -1,5 +1,6 @@
 // Single questions about days, months, a calendar and the grids: total functions over any bytes and any 32-bit numbers.
 // The console asks them; `lookup_c` hands them to C.
+// Kept: the questions are alike, one line each. A helper over what they call would need closures for a calendar's, and be no shorter.
 #![tactic(auto)]
 
 ghost use Rattle.std.specs.Prelude.{◌≡◌, ◌&&◌, eqb, leb, ltb, get_or};

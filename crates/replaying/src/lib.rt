@@ -11,6 +11,7 @@ use std::fmt;
 use std::fmt::Display;
 
 // Why calls were not run.
+// Kept: the two errors have names; a `bool` or an `Option` would have to tell them by its values.
 #[derive(Clone, Copy, PartialEq, Eq, Debug)]
 pub enum NotRun {
     // The register was not 11,264 zero bytes.

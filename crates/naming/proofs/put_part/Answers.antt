@@ -1,7 +1,6 @@
 -- `naming::put_part` meets its contract: what the loop keeps is that the series of the rows passed stand at the part's front.
 -- Assumes nothing.
-use Rattle.std.proofs.Common.{◌≡◌, sym, ◌∙◌, ◌+◌, ◌≤◌, length, take, length-drop, arith}
-use Rattle.std.proofs.lemmas.List.{take_all}
+use Rattle.std.proofs.Common.{sym, ◌∙◌, ◌+◌, ◌≤◌, length, take, length-drop, arith}
 use Rattle.base.proofs.Parts.{whole_part}
 use Rattle.fields.specs.Fields.{fields_bytes}
 use Rattle.names.specs.Kinds.{kind_number}
@@ -54,11 +53,3 @@ loop-row-preserved c =
           let o = new_other a.day a.rows.now l.row-index c.loop-row-test.true (sym c.is_new.ensures ∙ w.if-is_new.false) in
           rw (w.part-is, w.end-is, o) l.invariant
     ]
-
-pub returns : goal.returns
-returns c =
-    let a = c.args in
-    let l = c.loop-row in
-    let e : take l.row-index a.rows.now ≡ a.rows.now = take_all l.row-index a.rows.now (omega arith) in
-    let f = rw e at l.invariant.end_is in
-    record { value = f; part_after = l.invariant.part_is ∙ rw (e, f) }
