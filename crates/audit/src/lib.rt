@@ -1,7 +1,7 @@
 // Holding a register against what its journal gives.
 #![tactic(auto)]
 
-use phrases::Origin;
+use layout::Origin;
 use reading::{Announcement, Part, Register, Row};
 use std::fmt;
 use std::fmt::Display;
@@ -53,9 +53,9 @@ impl Display for Listed {
         let first = Date(row.first);
         let origin = row.origin;
         write!(f, "{month} {price}, first day {first}, origin {origin}")?;
-        match origin {
-            1..=5 => write!(f, ", {}", Origin(origin)),
-            _ => Ok(()),
+        match Origin::try_from(origin) {
+            Ok(origin) => write!(f, ", {origin}"),
+            Err(_) => Ok(()),
         }
     }
 }

@@ -10,7 +10,7 @@ use case::Case;
 use dates::MONTHS;
 use months::NotLive;
 use next::Prospects;
-use phrases::{Origin, SeriesName};
+use phrases::{OriginByte, SeriesName};
 use reading::{Register, Row};
 use std::fmt;
 use std::fmt::Display;
@@ -69,7 +69,7 @@ fn listed<W: fmt::Write>(f: &mut fmt::Formatter<W>, case: Case<'_>, row: Row) ->
         f,
         "listed since {}: {}\n  {}, span {}",
         Date(row.first),
-        Origin(row.origin),
+        OriginByte(row.origin),
         Live(case),
         case.span,
     )

@@ -7,6 +7,9 @@ ghost use Rattle.std.specs.Simd.{first_chunks};
 ghost use Rattle.layout.specs.Bytes.{places_from, rows_from, all_zero};
 ghost use Rattle.layout.specs.Origins.{origin_code, OriginOf};
 
+use std::fmt;
+use std::fmt::Display;
+
 // The register's length in bytes.
 // Kept: a register is lent as a slice, its length a `requires`. From `&mut [u8]` to `&mut [u8; REGISTER_LENGTH]` leads `try_from` alone,
 // and its clause does not say how what is written comes back.
@@ -87,6 +90,7 @@ impl TryFrom<u8> for Origin {
 
     ghost try_from_gives = { OriginOf };
 
+    // Kept: a number is matched, since here it becomes an origin.
     fn try_from(byte: u8) -> Result<Origin, NoOrigin> {
         match byte {
             1 => Ok(Origin::Live),
@@ -96,6 +100,18 @@ impl TryFrom<u8> for Origin {
             5 => Ok(Origin::Start),
             _ => Err(NoOrigin),
         }
+    }
+}
+
+impl Display for Origin {
+    fn fmt<W: fmt::Write>(&self, f: &mut fmt::Formatter<W>) -> fmt::Result {
+        f.write_str(match self {
+            Origin::Live => "its month became live",
+            Origin::Within => "within the span before",
+            Origin::Close => "brought in by the close",
+            Origin::Announced => "announced",
+            Origin::Start => "listed at the start",
+        })
     }
 }
 

@@ -1,6 +1,7 @@
 // What is told of series, rows and bytes.
 #![tactic(auto)]
 
+use layout::Origin;
 use names::{Kind, Named};
 use std::fmt::Display;
 use std::{fmt, str};
@@ -47,20 +48,16 @@ impl Display for SeriesName {
     }
 }
 
-// Why a row was listed.
+// Why a row was listed, by the byte that it has for its origin.
 #[derive(Clone, Copy, PartialEq, Eq, Debug)]
-pub struct Origin(pub u32);
+pub struct OriginByte(pub u8);
 
-impl Display for Origin {
+impl Display for OriginByte {
     fn fmt<W: fmt::Write>(&self, f: &mut fmt::Formatter<W>) -> fmt::Result {
-        f.write_str(match self.0 {
-            1 => "its month became live",
-            2 => "within the span before",
-            3 => "brought in by the close",
-            4 => "announced",
-            5 => "listed at the start",
-            _ => "no origin that there is",
-        })
+        match Origin::try_from(self.0) {
+            Ok(origin) => origin.fmt(f),
+            Err(_) => f.write_str("no origin that there is"),
+        }
     }
 }
 

@@ -7,7 +7,7 @@ mod scale;
 mod shapes;
 
 use bars::Columns;
-use phrases::Origin;
+use layout::Origin;
 use reading::Register;
 use scale::{Axis, Scale};
 use std::fmt;
@@ -90,11 +90,11 @@ impl Display for Legend {
 <path class='o0' d='M580 118h14v14h-14z'/><text x='601' y='130'>new on this day</text>
 <text class='y' x='72' y='146'>strike</text>
 ",
-            Origin(5),
-            Origin(1),
-            Origin(2),
-            Origin(3),
-            Origin(4),
+            Origin::Start,
+            Origin::Live,
+            Origin::Within,
+            Origin::Close,
+            Origin::Announced,
         )
     }
 }

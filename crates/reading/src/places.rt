@@ -28,7 +28,7 @@ pub struct Row {
     pub month: u32,
     pub price: u32,
     pub first: u32,
-    pub origin: u32,
+    pub origin: u8,
 }
 
 impl From<[u8; ROW_LENGTH]> for Row {
@@ -37,7 +37,7 @@ impl From<[u8; ROW_LENGTH]> for Row {
             month: u32::from(word(&place, MONTH)),
             price: u32::from(word(&place, PRICE)),
             first: u32::from(word(&place, FIRST_DAY)),
-            origin: u32::from(place[ORIGIN]),
+            origin: place[ORIGIN],
         }
     }
 }

@@ -1,7 +1,7 @@
 // A file of series: what was written, and what it has.
 use fields::{CONTENT, DAY_FIELD, SERIES_FIELD};
 use names::Kind;
-use phrases::{Origin, SeriesName};
+use phrases::{OriginByte, SeriesName};
 use std::fmt;
 use std::fmt::Display;
 use text::{Date, Month, Plural};
@@ -79,7 +79,7 @@ impl Display for SeriesLine {
             SeriesName::from(series),
             Month(u32::from(series.month)),
             series.price,
-            Origin(u32::from(field[ORIGIN])),
+            OriginByte(field[ORIGIN]),
         )
     }
 }

@@ -1,6 +1,6 @@
 // The rows of one month, and the rows of one day.
 use crate::parts::Ladder;
-use phrases::{Origin, SeriesName};
+use phrases::{OriginByte, SeriesName};
 use reading::{Register, Row, Rows};
 use std::fmt;
 use std::fmt::Display;
@@ -20,7 +20,7 @@ impl Display for Listed {
         } = self.0;
         let call = SeriesName::call(month, price);
         let put = SeriesName::put(month, price);
-        writeln!(f, "{call}  {put}  {}", Origin(origin))
+        writeln!(f, "{call}  {put}  {}", OriginByte(origin))
     }
 }
 
