@@ -10,6 +10,7 @@ use base::Cause;
 // Kept: no enum, since any byte may stand in a tag's place, and one that is neither is told as a place is, not as a tag.
 pub const DAY_TAG: u8 = 1;
 
+// Kept: no enum, as the day's.
 pub const SERIES_TAG: u8 = 2;
 
 // Where a field's content begins, behind tag and length.

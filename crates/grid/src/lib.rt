@@ -41,6 +41,8 @@ pub struct Strikes {
     pub high: u16,
 }
 
+// How many numbers of grid N a tier's grid goes up at a step.
+// Kept: `lookup_c` matches the tiers too, for the numbers that C has for them, which are others.
 #[tactic(auto, unfolding(crate::specs::Numbers::stride))]
 pub fn stride_of(tier: Tier) -> u16
     ensures { result ≡ stride tier }

@@ -15,6 +15,7 @@ use register::Opened;
 pub const MOST_LENGTH: usize = 41735;
 
 // What writing a file answers C: the cause's number, or 0 and the file's length; beside 13 the month in `length`.
+// Kept: C has no Result, so a number and what stands beside it are one struct.
 #[repr(C)]
 #[derive(Drop)]
 pub struct Written {

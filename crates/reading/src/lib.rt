@@ -68,17 +68,19 @@ impl<'a> Register<'a> {
         self.byte(STATUS)
     }
 
-    // Kept: the three below are a line each; one function for them would be asked for a place, which this crate alone knows.
     // How many announcements wait.
+    // Kept: this and the two below are a line each; one function for them would be asked for a place, which this crate alone knows.
     pub fn waiting(self) -> u32 {
         u32::from(self.byte(WAITING))
     }
 
     // The day of the last start or session.
+    // Kept: as `waiting`.
     pub fn day(self) -> u32 {
         u32::from(self.word(DAY))
     }
 
+    // Kept: as `waiting`.
     pub fn row_count(self) -> u32 {
         u32::from(self.word(COUNT))
     }

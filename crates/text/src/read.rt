@@ -72,6 +72,7 @@ fn read_date(text: &[u8]) -> Option<u32> {
 }
 
 // A day as 2026-11-16 or as a number.
+// Kept: as `read_month`.
 pub fn read_day(text: &[u8]) -> Option<u32> {
     read_date(text).or(read_number(text))
 }

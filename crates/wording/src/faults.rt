@@ -15,7 +15,7 @@ const PREFIX: [u8; 4] = *b"OW20";
 const PRICE: usize = 7;
 
 // The bytes before the content of each field: tag and length.
-// Kept: the casts, since a constant cannot call `try_from`.
+// Kept: the casts of this file; a constant cannot call `try_from`, and for a place it would need an answer for one that no usize holds.
 const DAY_LEAD: [u8; CONTENT] = [DAY_TAG, DAY_LENGTH as u8, 0];
 
 const SERIES_LEAD: [u8; CONTENT] = [SERIES_TAG, SERIES_LENGTH as u8, 0];
@@ -173,7 +173,6 @@ pub struct FileRefusal<'a> {
 impl Display for FileRefusal<'_> {
     fn fmt<W: fmt::Write>(&self, f: &mut fmt::Formatter<W>) -> fmt::Result {
         let file = self.file;
-        // Kept: the cast, since `try_from` would need an answer for a place that no usize holds.
         let place = self.place as usize;
         let refused = Refused(Cause::FileForm(self.place));
         write!(

@@ -15,6 +15,7 @@ pub struct CalendarRefusal<'a> {
     pub cause: Cause,
 }
 
+// Kept: as that of an opening's refusal, below.
 impl Display for CalendarRefusal<'_> {
     fn fmt<W: fmt::Write>(&self, f: &mut fmt::Formatter<W>) -> fmt::Result {
         write!(f, "{}", Refused(self.cause))?;

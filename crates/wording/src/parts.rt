@@ -8,7 +8,7 @@ use std::fmt::Display;
 use text::{Date, Month};
 
 // The last day and the last month of a calendar.
-// Kept: the casts, since a constant cannot call `from`.
+// Kept: the casts of this file, since a constant cannot call `from`.
 pub const LAST_DAY: u32 = DAYS as u32 - 1;
 
 pub const LAST_MONTH: u32 = MONTHS as u32 - 1;
