@@ -1,7 +1,7 @@
 -- The layout, as a scan of the bytes finds it, is that the bytes are what is written of what is read.
 -- Assumes nothing.
 use mathlib.Core.Path.{◌≡◌, refl, sym, ap, ◌∙◌, subst}
-use mathlib.Core.Bool.{true, false, false≢true}
+use mathlib.Core.Bool.{true}
 use mathlib.Core.List.{List, [], ◌∷◌, ◌++◌, append_assoc}
 use Prim.Native.Nat.{ℕ, zero, suc, ◌+◌, ◌-◌, ◌*◌, ◌≤◌, ◌<◌}
 use native.Mathlib.Nat.{add-zero}
@@ -12,13 +12,10 @@ use Rattle.layout.specs.Rows.{Row}
 use Rattle.layout.specs.Register.{Body}
 use Rattle.base.specs.Words.{two, at16}
 use Rattle.layout.specs.Bytes.{places_bytes, rows_bytes, padded, body_bytes, read_rows, moment_of, body_of, all_zero, register_length, rows_from, places_length, rows_length, most_rows}
-use Rattle.register.specs.Check.{Tells, Keeps}
+use Rattle.register.specs.Check.{Keeps}
 use Rattle.layout.specs.Spans.{places_at}
 use Rattle.layout.proofs.ByteLaws.{places-length, rows-length, padded-length, zeros_zero, places_none, places_some, places_count, rows-count, zeros_are}
 use Rattle.base.proofs.WordLaws.{at16-drop, two-append, one_at, two_at}
-
-pub tells-not : {P : Type 0} → (P → ⊥) → Tells false P
-tells-not never = record { if_true = λ e. absurd (false≢true e); if_holds = λ p. absurd (never p) }
 
 -- the last byte of each of n rows is zero
 abbrev pub EndsZero : ℕ → List ℕ → Type 0

@@ -1,8 +1,6 @@
 -- `announcing::announce` meets its contract: cause after cause, then the announcement in its place.
 -- Assumes nothing.
-use mathlib.Core.Path.{refl, sym, subst}
-use mathlib.Core.List.{List}
-use Prim.Native.Nat.{ℕ}
+use mathlib.Core.Path.{refl, sym}
 use native.Mathlib.Omega.{arith}
 use Rattle.std.proofs.lemmas.Result.{err_from_is_err_and}
 use Rattle.base.specs.declared.causes.Cause.TheVariants.{Empty as EmptyCause}
@@ -41,11 +39,6 @@ returns-in_default c =
     let r : Reads cal bs empty = (rw c.in_default.is at c.in_ok-before.ensures).0 in
     let x = refused-told cal bs call (own-refused cal bs call empty r EmptyCause refl) _ in
     record { value = x.0; register_after = x.1 }
-
-pub announce_refusal-requires : goal.announce_refusal-requires
-announce_refusal-requires c =
-    let o = opened (goal.at.announce_refusal-requires c).In-Running in
-    subst (λ (xs : List ℕ). Finds xs c.args.register.now c.in-Running.before) (sym o.calendar_is) o
 
 pub returns-in_err-announce_refusal : goal.returns-in_err-announce_refusal
 unfolding announced_at

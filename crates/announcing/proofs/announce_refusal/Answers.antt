@@ -13,7 +13,7 @@ use Rattle.layout.specs.Bytes.{body_of}
 use Rattle.layout.proofs.Chunks.{places_chunked}
 use Rattle.layout.proofs.Running.{runs}
 use Rattle.register.proofs.Well.{run-day}
-use Rattle.announcing.proofs.Causes.{few_wait, gathered, own-refusal, own_full, own_none}
+use Rattle.announcing.proofs.Causes.{gathered, own-refusal, own_full, own_none}
 use Rattle.announcing.proofs.announce_refusal.Goals.{After-waits-waits, After-refusal}
 use Rattle.announcing.proofs.announce_refusal.Goals as goal
 
@@ -31,9 +31,6 @@ found c w =
 
 pub next_first-next-requires : goal.next_first-next-requires
 next_first-next-requires c = let r = c.requires.runs in (r.reads.size, run-day _ _ r.reads.size (runs _ _ r.well))
-
-pub places-requires : goal.places-requires
-places-requires c = let r = c.requires.runs in omega (arith, c.from-waiting.ensures, r.reads.size, few_wait _ _ r.reads.size (runs _ _ r.well))
 
 pub returns-in_err-refusal : goal.returns-in_err-refusal
 returns-in_err-refusal c =

@@ -50,6 +50,3 @@ returns-clause-cause c =
     let a = c.args in
     c.listing_on.ensures.cause
     ∙ sym (goes a.before.calendar.bytes.now a.register.now a.day a.close c.word-last.ensures c.next_session-next.ensures (c.if-day-from.false ∙ c.from.ensures))
-
-pub returns-clause-listing : goal.returns-clause-listing
-returns-clause-listing c = rw (← (c.if-day-from.false ∙ c.from.ensures)) at c.listing_on.ensures.listing

@@ -34,9 +34,6 @@ returns-in_err-listing-in-Empty c =
     let x = refused-listed _ _ call (own-refused _ _ call empty r.0 _ (rw r.1 at c.in_err-listing-in-Empty.ensures.cause)) in
     record { value = rw (p.1, p.2) x.0; register_after = x.1 }
 
-pub list_start-requires : goal.list_start-requires
-list_start-requires c = (reads (goal.at.list_start-requires c).In-Empty).0.size
-
 pub returns-in_ok-listing-in-Empty : goal.returns-in_ok-listing-in-Empty
 unfolding accepted rules
 returns-in_ok-listing-in-Empty c =

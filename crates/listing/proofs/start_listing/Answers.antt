@@ -34,8 +34,3 @@ returns-clause-cause c =
     let e = rw d at (sym c.has_session.ensures ∙ c.if-not-has_session.false) in
     rw (d, first_is a.calendar.bytes.now (begun a.day)) at c.listing_on.ensures.cause
     ∙ sym (start_goes a.calendar.bytes.now a.day a.close (and_i (lt-ltb a.day day_count (omega (arith, c.in-Ok.ensures, c.if-day-ge-DAYS.false))) e))
-
-pub returns-clause-listing : goal.returns-clause-listing
-returns-clause-listing c =
-    let d : c.in-Ok.day ≡ c.args.day = omega (arith, c.in-Ok.ensures) in
-    rw d at c.listing_on.ensures.listing

@@ -20,9 +20,6 @@ returns-in_err-standing c =
     let e = rw c.in_ok-calendar.ensures.bytes at c.in_err-standing.ensures in
     rw (p.1, p.2, e.1) (refused_run _ _ (passes-checked _ c.args.register.now c.in_ok-calendar.ensures.answer) c.if-register-ne-REGISTER_LENGTH.false c.if-register-ne0.true e.0)
 
-pub returns-then-register-ne0 : goal.returns-then-register-ne0
-returns-then-register-ne0 c = rw c.in_ok-calendar.ensures.bytes at c.in_ok-standing.ensures
-
 pub returns-then-is_zero : goal.returns-then-is_zero
 returns-then-is_zero c = (
   reads-empty _ _ (passes-checked _ c.args.register.now c.in_ok-calendar.ensures.answer) c.if-register-ne-REGISTER_LENGTH.false (sym c.is_zero.ensures ∙ c.if-is_zero.true),

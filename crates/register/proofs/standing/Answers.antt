@@ -15,7 +15,6 @@ use Rattle.layout.specs.Bytes.{moment_of, body_of, rows_from}
 use Rattle.std.specs.Prelude.{Option}
 use Rattle.std.specs.Simd.{first_chunks}
 use Rattle.std.proofs.lemmas.Option.{none-some}
-use Rattle.register.specs.Check.{Keeps}
 use Rattle.register.specs.Opens.{Finds}
 use Rattle.layout.proofs.Running.{runs_i}
 use Rattle.layout.proofs.OpeningLaws.{reads-running}
@@ -23,11 +22,8 @@ use Rattle.scan.specs.Scan.{scanned, rows_at, ladder_spans}
 use Rattle.scan.proofs.Steps.{rows_scanned}
 use Rattle.layout.proofs.ByteLaws.{places_none}
 use Rattle.register.proofs.Well.{first_read, run_keeps, run-session, run-first, run-day, run_spans, Scanned, spans_are, stands_if, none_stand}
-use Rattle.register.proofs.standing.Goals.{Else-not-keeps_layout, In-Ok, In-Some}
+use Rattle.register.proofs.standing.Goals.{In-Ok, In-Some}
 use Rattle.register.proofs.standing.Goals as goal
-
-keeps : (c : Else-not-keeps_layout) → Keeps c.args.register.now
-keeps c = c.keeps_layout.ensures.if_true (c.if-not-keeps_layout.false)
 
 -- what the code took from the bytes
 first : (c : In-Ok) → c.in-Ok.live.first ≡ first_at c.args.calendar.bytes.now (moment_of c.args.register.now)
@@ -88,11 +84,6 @@ pub returns-in_default : goal.returns-in_default
 returns-in_default c =
     let f = first_read _ c.args.register.now c.word-day.ensures c.first_live.ensures in
     none_stand _ _ (λ r. omega (arith, c.in_default.ensures.1, f, run-first _ _ c.requires r))
-
-pub rows-rows-requires : goal.rows-rows-requires
-rows-rows-requires c =
-    let k = keeps (goal.at.rows-rows-requires c).Else-not-keeps_layout in
-    omega (arith, c.requires, c.from.ensures, c.word.ensures, k.count)
 
 pub returns-in_default-ladders : goal.returns-in_default-ladders
 returns-in_default-ladders c =

@@ -12,12 +12,6 @@ overflow_add-result c =
     let high = number-or c.from.result c.unwrap_or.ensures c.number_of.ensures in
     omega (arith, high, number_le c.from.result)
 
-pub overflow_sub-result : goal.overflow_sub-result
-overflow_sub-result c =
-    let high = number-or c.from.result c.unwrap_or.ensures c.number_of.ensures ∙ ap number_of c.from.ensures in
-    let low = number-or c.from-else-eq.result c.unwrap_or-else-eq.ensures c.number_of-else-eq.ensures ∙ ap number_of c.from-else-eq.ensures in
-    omega (arith, high, low, c.requires)
-
 pub returns-then-eq : goal.returns-then-eq
 unfolding dropped_rows
 returns-then-eq c = rw (sym c.eq.ensures ∙ c.if-eq.true)

@@ -55,11 +55,6 @@ pub close_spans-wide-requires : goal.close_spans-wide-requires
 unfolding live_months
 close_spans-wide-requires c = rw c.months-months.ensures (omega (arith, c.args.listing.live.latest))
 
-pub places-places-requires : goal.places-places-requires
-places-places-requires c =
-    let r = c.requires.found.runs in
-    omega (arith, c.from.ensures, r.reads.size, (run_keeps c.args.listing.calendar.bytes.now c.args.register.now r.reads.size (runs c.args.listing.calendar.bytes.now c.args.register.now r.well)).waiting)
-
 pub returns-then-eq-2 : goal.returns-then-eq-2
 unfolding body_of
 returns-then-eq-2 c =

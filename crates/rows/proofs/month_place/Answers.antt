@@ -1,6 +1,6 @@
 -- `rows::month_place` meets its contract. The loop keeps an equation: the months left, from the byte reached, give the place.
 -- Assumes nothing.
-use mathlib.Core.Path.{◌≡◌, refl, sym, ap, ◌∙◌}
+use mathlib.Core.Path.{◌≡◌, sym, ap, ◌∙◌}
 use mathlib.Core.List.{List}
 use Prim.Native.Nat.{ℕ, ◌*◌}
 use native.Mathlib.Omega.{arith}
@@ -16,12 +16,6 @@ size : (c : After-ladder_size-size) →
     let months = c.months-months.result in
     8 * c.ladder_size-size.result ≡ size_at a.running.live.first months a.running.spans c.loop-i.i
 size c = rw c.tier.ensures at (ap (λ (k : ℕ). 8 * k) c.ladder_size-size.ensures.0)
-
-pub loop-i-init : goal.loop-i-init
-loop-i-init c = (omega arith, refl)
-
-pub ladder_size-size-requires : goal.ladder_size-size-requires
-ladder_size-size-requires c = c.requires c.loop-i.i c.loop-i-test.true
 
 pub returns-then-month-from-clause-place : goal.returns-then-month-from-clause-place
 returns-then-month-from-clause-place c =

@@ -1,11 +1,8 @@
 -- `rows::rows_place` meets its contract: the causes are tried downwards, and a register that stands gives the place by its spans.
 -- Assumes nothing.
-use Rattle.std.proofs.Common.{◌≡◌, refl, ℕ, List, Result, Ok, Err, arith}
-use Rattle.std.specs.Prelude.{IfErr}
+use Rattle.std.proofs.Common.{refl, arith}
 use Rattle.std.proofs.lemmas.Result.{err_from_is_err_and}
-use Rattle.base.specs.declared.causes.Cause.{Cause}
-use Rattle.base.specs.declared.causes.Cause.TheVariants.{RowsMonth, Empty as EmptyCause}
-use Rattle.calls.specs.declared.Part.{Part}
+use Rattle.base.specs.declared.causes.Cause.TheVariants.{Empty as EmptyCause}
 use Rattle.rules.specs.Rulebook.{first_at, rules}
 use Rattle.layout.specs.Register.{empty}
 use Rattle.layout.specs.Bytes.{moment_of, body_of}
@@ -15,7 +12,6 @@ use Rattle.layout.proofs.Running.{runs}
 use Rattle.calls.specs.RowsCall.{rows_cause}
 use Rattle.register.specs.Opens.{Finds}
 use Rattle.register.proofs.Well.{run-held}
-use Rattle.rows.specs.Telling.{TellsMonth}
 use Rattle.rows.proofs.MonthRows.{spans-order, rows-refused, rows_placed}
 use Rattle.rows.proofs.rows_place.Goals.{In-Running}
 use Rattle.rows.proofs.rows_place.Goals as goal
@@ -51,10 +47,3 @@ pub returns-clause-place : goal.returns-clause-place
 returns-clause-place c =
     let o = opened (goal.at.returns-clause-place c).In-Running in
     rw (c.month_place.ensures.place, o.runs.spans_are, o.first_is) (rows_placed c.args.calendar.now c.args.register.now c.args.month o.runs.reads (runs _ _ o.runs.well))
-
-no-month : (cal : List ℕ) (r : Result Part Cause) → IfErr r (λ why. why ≡ RowsMonth) → IfErr r (TellsMonth cal)
-no-month cal (Ok part) h = h
-no-month cal (Err why) h = rw h refl
-
-pub returns-clause-month : goal.returns-clause-month
-returns-clause-month c = no-month _ c.month_place.result c.month_place.ensures.month
