@@ -5,7 +5,7 @@ usage: docs/places.py [FOLDER]      the counts, and where they are, of this chec
        docs/places.py --short [..]  the counts alone
 
 A place is kept where a comment `Kept:` stands in its item, the lines between two empty ones, or in the file's first; such a comment that
-speaks of the casts of this file keeps all of these. Beside each count stands how many of the places are kept.
+speaks of the casts or the facts of this file keeps all of these. Beside each count stands how many of the places are kept.
 """
 
 import re
@@ -29,7 +29,7 @@ class Source(NamedTuple):
     text: str  # as it stands
     code: str  # without comments, as many lines
     kept: Set[int]  # the lines of the items that are kept
-    casts_kept: bool
+    all_kept: Set[str]  # "casts", "facts": those of the whole file are kept
 
 
 class Function(NamedTuple):
@@ -46,11 +46,11 @@ def sources(root: Path) -> List[Source]:
     for path in sorted((root / "crates").glob("*/src/**/*.rt")):
         text = path.read_text()
         code = re.sub(r"(?m)^(\s*)//.*$", r"\1", text)
-        found.append(Source(str(path.relative_to(root)), text, code, kept_lines(text), CASTS_KEPT.search(text) is not None))
+        found.append(Source(str(path.relative_to(root)), text, code, kept_lines(text), set(ALL_KEPT.findall(text))))
     return found
 
 
-CASTS_KEPT = re.compile(r"// Kept:.*\bcasts? (?:of|in) this file")
+ALL_KEPT = re.compile(r"// Kept: the (casts|facts) of this file\b")
 
 
 def kept_lines(text: str) -> Set[int]:
@@ -58,7 +58,7 @@ def kept_lines(text: str) -> Set[int]:
     start = 1
     for item in text.split("\n\n"):
         end = start + item.count("\n") + 1
-        if re.search(r"// Kept:(?!.*\bcasts? (?:of|in) this file)", item):
+        if "// Kept:" in ALL_KEPT.sub("", item):
             if start == 1:
                 return set(range(1, text.count("\n") + 2))
             kept |= set(range(start, end))
@@ -167,7 +167,7 @@ CODE_NAMES = {
     r"base/src/causes": r"[A-Z_]+",
     r"calls/src/lib": r"START|SESSION|ANNOUNCE|KINDS",
     r"fields/src/lib": r"DAY_TAG|SERIES_TAG",
-    r"lookup/src/lib": r"OUTSIDE",
+    r"lookup(?:_c)?/src/lib": r"OUTSIDE",
     r"phrases/src/lib": r"CALL|PUT",
     r"commands/src/table": r"(?!FORMS|LISTED)[A-Z_]+",
     r"commands/src/options": r"[A-Z_]+",
@@ -252,9 +252,12 @@ def crowded(all_sources: List[Source]) -> List[Place]:
 
 
 def casts(all_sources: List[Source]) -> List[Place]:
-    file_kept = {source.file for source in all_sources if source.casts_kept}
-    found = matches(all_sources, r"\bas (?:u8|u16|u32|u64|usize|i32|i64)\b")
-    return [cast._replace(kept=cast.kept or cast.file in file_kept) for cast in found]
+    return with_all_kept("casts", all_sources, matches(all_sources, r"\bas (?:u8|u16|u32|u64|usize|i32|i64)\b"))
+
+
+def with_all_kept(what: str, all_sources: List[Source], found: List[Place]) -> List[Place]:
+    files = {source.file for source in all_sources if what in source.all_kept}
+    return [place._replace(kept=place.kept or place.file in files) for place in found]
 
 
 def repeated_facts(all_sources: List[Source]) -> List[Place]:
@@ -268,7 +271,7 @@ def repeated_facts(all_sources: List[Source]) -> List[Place]:
                     fact = re.sub(r"\.(?:now|old)\b", "", fact)
                     if fact:
                         facts[fact].append(place(source, f.start, f"{f.name}: {fact}"))
-    return [found for group in facts.values() if 3 <= len(group) for found in group]
+    return with_all_kept("facts", all_sources, [found for group in facts.values() if 3 <= len(group) for found in group])
 
 
 POINTS = [

@@ -83,6 +83,7 @@ pub fn next_session(calendar: &[u8], day: u16) -> u16
 }
 
 // The first live month of a day: the day's own month until it has expired, then the next.
+// Kept: that the day is one of the calendar: see `dates::DAYS`.
 pub fn first_live(calendar: Calendar<'_>, day: u16) -> u16
     requires { day < day_count }
     ensures { result ≡ first_live (expiry_of calendar.entry.bytes.now) day }

@@ -5,7 +5,7 @@ ghost use Rattle.std.specs.Prelude.{◌≡◌, ◌<◌, ◌≤◌};
 ghost use Rattle.dates.specs.Months.{month_count, day_count, first_day, third_friday, month_of, ThirdFridays};
 
 // Months 0 to 1,199, days 0 to 36,524.
-// Kept: a day is a number and no type of its own. The rules also speak of the day after the last, and three functions alone ask for less.
+// Kept: a day is a number and no type of its own. The rules also speak of the day after the last, and four functions alone ask for less.
 pub const MONTHS: u16 = 1200;
 
 pub const DAYS: u16 = 36525;

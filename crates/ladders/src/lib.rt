@@ -194,6 +194,7 @@ fn write_ladder<'a>(rest: &mut [u8], old: &'a [[u8; ROW_LENGTH]], plan: &Plan) -
 
 // Writes the six ladders, each into the register's rest behind the month before, and clears what is behind them. `old` is the old
 // rows of the months that are live still. Returns where the rows end.
+// Kept: the fact on the register's length: see `layout::REGISTER_LENGTH`.
 pub fn write_ladders(register: &mut [u8], old: &[[u8; ROW_LENGTH]], plans: &Plans) -> usize
     requires { length register.old ≡ register_length }
     ensures value { result ≡ rows_from + 8 * length (ladders_from (plan_of plans.now) 0 6 (map row_of old.now)) }

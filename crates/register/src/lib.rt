@@ -25,6 +25,7 @@ use layout::{
 use rules::LiveMonths;
 
 // Whether the bytes that are neither announcement nor row keep the layout of a running register.
+// Kept: the facts of this file on a register's bytes. Its length: see `layout::REGISTER_LENGTH`; its day beside them would be said twice.
 fn keeps_layout(register: &[u8]) -> bool
     requires { length register.now ≡ register_length }
     ensures { Tells result (Keeps register.now) }
@@ -55,6 +56,7 @@ fn keeps_layout(register: &[u8]) -> bool
 }
 
 // The first live month of the next session; 1,200 where there is none.
+// Kept: no Option, since the rules count 1,200 there, and the one who asks takes it as too late like any month behind March 2099.
 pub fn next_first(calendar: Calendar<'_>, register: &[u8]) -> u16
     requires { (length register.now ≡ register_length) × ((moment_of register.now).day < day_count) }
     ensures { result ≡ first_at calendar.entry.bytes.now (next (rules calendar.entry.bytes.now) (moment_of register.now)) }

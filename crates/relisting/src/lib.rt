@@ -34,6 +34,7 @@ pub struct Listing<'a> {
 }
 
 // Writes status, day and row count, and clears the announcements.
+// Kept: the facts of this file on a register's length: see `layout::REGISTER_LENGTH`.
 fn write_head(register: &mut [u8], day: u16, count: u16)
     requires { length register.old ≡ register_length }
     ensures { register.new ≡ head_bytes day count ++ drop rows_from register.old }
@@ -51,6 +52,7 @@ fn list(register: &mut [u8], old: &[[u8; ROW_LENGTH]], plans: &Plans) -> u16
     ensures register_after { register.new ≡ quiet_bytes plans.now.day (ladders_from (plan_of plans.now) 0 6 (map row_of old.now)) }
 {
     let end = ladders::write_ladders(register, old, plans);
+    // Kept: the cast, since `try_from` would need an answer for more rows than there is room for.
     let count = ((end - ROWS) / ROW_LENGTH) as u16;
     write_head(register, plans.day, count);
     count
@@ -100,6 +102,7 @@ fn relist(register: &mut [u8], rows: u16, dropped: u16, plans: &Plans) -> u16
     ensures value { result ≡ length (ladders_from (plan_of plans.now) 0 6 (drop dropped (read_rows rows (drop rows_from register.old)))) }
     ensures register_after { register.new ≡ quiet_bytes plans.now.day (ladders_from (plan_of plans.now) 0 6 (drop dropped (read_rows rows (drop rows_from register.old)))) }
 {
+    // Kept: the copy is a whole register, so no length stands beside it.
     let mut copy = [0; REGISTER_LENGTH];
     copy.copy_from_slice(register);
     let (_, old) = layout::rows(&copy, usize::from(rows)).split_at(usize::from(dropped));
