@@ -44,6 +44,7 @@ fn write_head(register: &mut [u8], day: u16, count: u16)
     put_word(register, COUNT, count);
 }
 
+// Kept: the cast. No register has more rows than fit, and `try_from` would need an answer for one that has.
 // Lists all six months by their plans, from the old rows that stay. Returns the row count.
 fn list(register: &mut [u8], old: &[[u8; ROW_LENGTH]], plans: &Plans) -> u16
     requires { length register.old ≡ register_length }

@@ -28,8 +28,7 @@ fn ladder_size(tier: Tier, low: u16, high: u16) -> u16
     (to - from) / grid::stride_of(tier) + 1
 }
 
-// Kept: where the rows begin and how long one is, which are `usize`, count in the `u16` of a part: `try_from` would need an answer for
-// what is proved not to happen.
+// Kept: the casts. `try_from` gives no constant, and would need an answer for a number that does not fit, which these do.
 const START: u16 = ROWS as u16;
 
 const LENGTH: u16 = ROW_LENGTH as u16;
