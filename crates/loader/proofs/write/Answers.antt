@@ -48,16 +48,6 @@ returns-in_default c =
     let a = refused_file cal bs out (refused_own cal bs empty r (file_cause out) EmptyCause refl (λ z. omega arith)) in
     record { value = a.0; file_after = a.1 }
 
-pub word-day-requires : goal.word-day-requires
-word-day-requires c =
-    let r = opened (goal.at.word-day-requires c).In-Running in
-    omega (arith, r.reads.size)
-
-pub word-requires : goal.word-requires
-word-requires c =
-    let r = opened (goal.at.word-requires c).In-Running in
-    omega (arith, r.reads.size)
-
 pub rows-rows-requires : goal.rows-rows-requires
 rows-rows-requires c =
     let r = opened (goal.at.rows-rows-requires c).In-Running in
@@ -71,18 +61,10 @@ returns-then-file-length c =
     let a = short_file c.args.calendar.now c.args.register.now c.args.file.now r.reads (omega (arith, size, c.if-file-length.true)) in
     record { value = a.0; file_after = a.1 }
 
-pub word-first-requires : goal.word-first-requires
-word-first-requires c =
-    let r = opened (goal.at.word-first-requires c).In-Running in
-    omega (arith, r.reads.size)
-
 pub overflow_mul-january : goal.overflow_mul-january
 overflow_mul-january c =
     let r = opened (goal.at.overflow_mul-january c).In-Running in
     omega (arith, c.word-first.ensures, first-month c.args.calendar.now c.args.register.now r.reads.size (runs _ _ r.well))
-
-pub split_at-requires : goal.split_at-requires
-split_at-requires c = c.rows_before.ensures.most
 
 pub put_file-requires : goal.put_file-requires
 put_file-requires c =
