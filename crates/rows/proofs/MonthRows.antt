@@ -248,7 +248,7 @@ module _ (cal bs : List ℕ) (m : ℕ) where
       }
 
   -- the bytes at the place of the rows call are its part, for every register
-  place_part : let p = rows_place (rules cal) bs m in take p.size (drop p.at bs) ≡ rows_part (rules cal) bs m
+  pub place_part : let p = rows_place (rules cal) bs m in take p.size (drop p.at bs) ≡ rows_part (rules cal) bs m
   unfolding rows_place rows_part
   place_part =
       by_bool (eqb (rows_number (rules cal) bs m) 0)
@@ -256,7 +256,7 @@ module _ (cal bs : List ℕ) (m : ℕ) where
       (λ z. rw z)
 
   -- and they lie inside it
-  place_inside : let p = rows_place (rules cal) bs m in p.at + p.size ≤ length bs
+  pub place_inside : let p = rows_place (rules cal) bs m in p.at + p.size ≤ length bs
   unfolding rows_place
   place_inside =
       by_bool (eqb (rows_number (rules cal) bs m) 0)
