@@ -75,7 +75,6 @@ module _ (cal bs : List ℕ) (m p : ℕ) (size : length bs ≡ register_length) 
   pub room : Room bs
   unfolding number bytes_of body_of
   room = record {
-    size = size;
     layout = r.written;
     room = let l = leb-false most_waiting (length (body_of bs).waiting) (not-cause (leb most_waiting (length (body_of bs).waiting)) 24 (none_of _ _ (none_of _ _ none).1).0) in
         omega (arith, waiting-count cal bs m p);

@@ -71,13 +71,13 @@ module _ (bs : List ℕ) (ok : Room bs) (m p : ℕ) where
       (place_bytes m p) last refl w
       ∙ rw (places-more b.waiting m p, length_more b.waiting m p)
 
-  pub put_is : (last : List ℕ)
-      → last ≡ place_bytes m p ++ drop 4 (take (length bs - (8 + 4 * get_or bs 1 0)) (drop (8 + 4 * get_or bs 1 0) bs))
+  pub put_is : (n : ℕ) → n ≡ length bs → (last : List ℕ)
+      → last ≡ place_bytes m p ++ drop 4 (take (n - (8 + 4 * get_or bs 1 0)) (drop (8 + 4 * get_or bs 1 0) bs))
       → (get_or bs 1 0 + 1 ≡ length (announce_body (body_of bs) m p).waiting)
-      × (set (put_mid (8 + 4 * get_or bs 1 0) (length bs - (8 + 4 * get_or bs 1 0)) bs last) 1 (get_or bs 1 0 + 1) ≡ bytes_of (running (announce_body (body_of bs) m p)))
+      × (set (put_mid (8 + 4 * get_or bs 1 0) (n - (8 + 4 * get_or bs 1 0)) bs last) 1 (get_or bs 1 0 + 1) ≡ bytes_of (running (announce_body (body_of bs) m p)))
   unfolding announce_body
-  put_is last w =
+  put_is n e last w =
       let r = ok.room in (
         sym (length_more (body_of bs).waiting m p ∙ ap (λ (k : ℕ). k + 1) counted),
-        rw (← counted) (put_any (body_of bs) ok.layout (omega (arith, counted)) last (rw counted w)),
+        rw (e, ← counted) (put_any (body_of bs) ok.layout (omega (arith, counted)) last (rw counted (rw e at w))),
       )

@@ -14,7 +14,7 @@ ghost use Rattle.calls.specs.Results.{told_of};
 ghost use Rattle.announcing.specs.Placing.{place_bytes, Room};
 
 use base::{Cause, put_word};
-use layout::{MONTH, MOST_WAITING, PLACE_LENGTH, PLACES, PRICE, WAITING};
+use layout::{MONTH, MOST_WAITING, PLACE_LENGTH, PLACES, PRICE, REGISTER_LENGTH, WAITING};
 use register::{Opened, Running};
 
 // Writes an announcement at the front of a part.
@@ -27,7 +27,7 @@ fn write_place(part: &mut [u8], month: u16, price: u16)
 }
 
 // Puts an announcement into the next free place. Returns how many wait.
-fn put_announcement(register: &mut [u8], month: u16, price: u16) -> u16
+fn put_announcement(register: &mut [u8; REGISTER_LENGTH], month: u16, price: u16) -> u16
     requires { Room register.old }
     ensures value { result ≡ length (announce_body (body_of register.old) month price).waiting }
     ensures register_after { register.new ≡ bytes_of (running (announce_body (body_of register.old) month price)) }
@@ -42,7 +42,7 @@ fn put_announcement(register: &mut [u8], month: u16, price: u16) -> u16
 // An announcement's own causes, on a register that runs and is well formed.
 fn announce_refusal(
     before: Running<'_>,
-    register: &[u8],
+    register: &[u8; REGISTER_LENGTH],
     month: u32,
     price: u32,
 ) -> Result<(), Cause>
@@ -60,7 +60,7 @@ fn announce_refusal(
 }
 
 // Month and price, to be introduced by the next session; answers how many wait. An entry point: it takes any bytes and any numbers.
-// Kept: the casts. A month and a price that are not refused fit their types, and `try_from` would need an answer for those that do not.
+// Kept: the casts of this file. The check proves that they lose nothing; try_from(..).unwrap() would need the same proof and says it in more words.
 pub fn announce(calendar: &[u8], register: &mut [u8], month: u32, price: u32) -> Result<u16, Cause>
     ensures value { told_of result ≡ announced_at calendar.now (Announce month price) register.old }
     ensures register_after { register.new ≡ after_at (rules calendar.now) (Announce month price) register.old }
@@ -68,6 +68,7 @@ pub fn announce(calendar: &[u8], register: &mut [u8], month: u32, price: u32) ->
     let Opened::Running(before) = register::open(calendar, register)? else {
         return Err(Cause::Empty);
     };
+    let register = register.as_mut_array().unwrap();
     announce_refusal(before, register, month, price)?;
     Ok(put_announcement(register, month as u16, price as u16))
 }

@@ -72,24 +72,29 @@ module _ (first : ℕ) (plans : ℕ → Plan) (start : List ℕ) (old : List Row
         pub room : at + 8 * length (prices_in (plans i)) ≤ register_length
         room = omega (arith, inv.end, next-count, ready.room)
 
-        pub turn : (last : List ℕ) (left : List Row)
+        pub part_room : (n : ℕ) → n ≡ length register → 8 * length (prices_in (plans i)) ≤ length (take (n - at) (drop at register))
+        part_room n m = rw (m, whole_part at register) (simp length-drop (omega (arith, room, inv.size)))
+
+        pub turn : (n : ℕ) → n ≡ length register → (last : List ℕ) (left : List Row)
             → left ≡ left_by (plans i) (prices_in (plans i)) olds
-            → last ≡ rows_bytes (ladder_by (plans i) (prices_in (plans i)) olds) ++ drop (8 * length (prices_in (plans i))) (take (length register - at) (drop at register))
-            → length (put_mid at (length register - at) register last) ≡ length start
-            → Inv (put_mid at (length register - at) register last) (at + 8 * length (prices_in (plans i))) left (i + 1)
-        turn last left g w z =
+            → last ≡ rows_bytes (ladder_by (plans i) (prices_in (plans i)) olds) ++ drop (8 * length (prices_in (plans i))) (take (n - at) (drop at register))
+            → Inv (put_mid at (n - at) register last) (at + 8 * length (prices_in (plans i))) left (i + 1)
+        turn n m last left g w =
             let k : ℕ = 8 * length (prices_in (plans i)) in
             let new : List ℕ = rows_bytes (ladder_by (plans i) (prices_in (plans i)) olds) in
             let rest : List ℕ = rows_bytes (ladders_from plans (i + 1) (6 - (i + 1)) left) in
             let todo : drop at up_to_end ≡ new ++ rest = inv.more ∙ rw (next olds, g) (rows_append _ _) in
             let l : length new ≡ k = rows-length (ladder_by (plans i) (prices_in (plans i)) olds) ∙ ap (λ (n : ℕ). 8 * n) (ladder-count (plans i) (prices_in (plans i)) olds) in
             let a : at ≤ length up_to_end = omega (arith, inv.end, end-length) in
-            record {
-              size = z;
-              done = put_next up_to_end start register at k a inv.done new rest todo l last w;
+            let done = put_next up_to_end start register at k a inv.done new rest todo l last (rw m at w) in
+            let b : at + k ≤ length up_to_end = omega (arith, inv.end, next-count, end-length) in
+            rw m
+            (record {
+              size = ap length done ∙ rw (length-append, length-take-le (at + k) up_to_end b, length-drop) (omega (arith, room));
+              done = done;
               more = drop-next up_to_end start register at k a inv.done new rest todo l;
               end = omega (arith, inv.end, next-count);
-            }
+            })
 
       module _ (h : 6 ≤ i) where
         pub at_end : at ≡ rows_from + 8 * length rows
@@ -99,15 +104,15 @@ module _ (first : ℕ) (plans : ℕ → Plan) (start : List ℕ) (old : List Row
             let c : at + 8 * count_from plans i 0 ≡ rows_from + 8 * count_from plans 0 6 = rw e at inv.end in
             omega (arith, ladders-count plans 0 6 old)
 
-        pub cleared : (last : List ℕ) → last ≡ replicate (length (take (length register - at) (drop at register))) 0
-            → put_mid at (length register - at) register last ≡ take rows_from start ++ padded rows_length (rows_bytes rows)
+        pub cleared : (n : ℕ) → n ≡ length register → (last : List ℕ) → last ≡ replicate (length (take (n - at) (drop at register))) 0
+            → put_mid at (n - at) register last ≡ take rows_from start ++ padded rows_length (rows_bytes rows)
         unfolding padded
-        cleared last w =
+        cleared n m last w =
             let e = at_end in
             let b = rows-length rows in
             let t : take at register ≡ up_to_end =
             rw inv.done
             (take_at (take at up_to_end) (drop at start) at (length-take-le at up_to_end (omega (arith, inv.end, end-length)))
             ∙ take_all at up_to_end (omega (arith, length-append (take rows_from start) (rows_bytes rows), front))) in
-            let n : length register - at ≡ rows_length - length (rows_bytes rows) = omega (arith, inv.size) in
-            put_rest at register last ∙ rw (w, whole_part at register, length-drop, t, n) (append_assoc (take rows_from start) (rows_bytes rows) (replicate (rows_length - length (rows_bytes rows)) 0))
+            let k : length register - at ≡ rows_length - length (rows_bytes rows) = omega (arith, inv.size) in
+            rw m (put_rest at register last ∙ rw (rw m at w, whole_part at register, length-drop, t, k) (append_assoc (take rows_from start) (rows_bytes rows) (replicate (rows_length - length (rows_bytes rows)) 0)))

@@ -6,13 +6,13 @@ pub mod plans;
 ghost use Rattle.std.specs.Prelude.{◌≡◌, ◌&&◌, ◌++◌, ◌+◌, ◌*◌, ◌≤◌, ◌<◌, eqb, map, length, take, drop, get_or};
 ghost use Rattle.base.specs.Lists.{within};
 ghost use Rattle.base.specs.Words.{at16};
-ghost use Rattle.layout.specs.Bytes.{register_length, most_rows, rows_from, row_of, rows_bytes, padded};
+ghost use Rattle.layout.specs.Bytes.{most_rows, rows_from, row_of, rows_bytes, padded};
 ghost use Rattle.ladders.specs.Writing.{row_bytes, prices_in, added_origin, next_price, ladder_by, left_by, Ends, Alike, Spanned, ladders_from};
 ghost use Rattle.ladders.specs.Plans.{plan_of};
 
 use base::{Tier, put_word, word};
 use grid::Strikes;
-use layout::{FIRST_DAY, MONTH, ORIGIN, Origin, PRICE, ROW_LENGTH, ROWS, SPARE};
+use layout::{FIRST_DAY, MONTH, ORIGIN, Origin, PRICE, REGISTER_LENGTH, ROW_LENGTH, ROWS, SPARE};
 pub use plans::Plans;
 
 // How one month's ladder is written.
@@ -194,9 +194,11 @@ fn write_ladder<'a>(rest: &mut [u8], old: &'a [[u8; ROW_LENGTH]], plan: &Plan) -
 
 // Writes the six ladders, each into the register's rest behind the month before, and clears what is behind them. `old` is the old
 // rows of the months that are live still. Returns where the rows end.
-// Kept: the fact on the register's length: see `layout::REGISTER_LENGTH`.
-pub fn write_ladders(register: &mut [u8], old: &[[u8; ROW_LENGTH]], plans: &Plans) -> usize
-    requires { length register.old ≡ register_length }
+pub fn write_ladders(
+    register: &mut [u8; REGISTER_LENGTH],
+    old: &[[u8; ROW_LENGTH]],
+    plans: &Plans,
+) -> usize
     ensures value { result ≡ rows_from + 8 * length (ladders_from (plan_of plans.now) 0 6 (map row_of old.now)) }
     ensures register_after { register.new ≡ take rows_from register.old ++ padded (8 * most_rows) (rows_bytes (ladders_from (plan_of plans.now) 0 6 (map row_of old.now))) }
 {

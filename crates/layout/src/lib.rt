@@ -11,8 +11,6 @@ use std::fmt;
 use std::fmt::Display;
 
 // The register's length in bytes.
-// Kept: a register is lent as a slice, its length a `requires`. From `&mut [u8]` to `&mut [u8; REGISTER_LENGTH]` leads `try_from` alone,
-// whose clause does not say how what is written comes back; an array where it is only read would be a second form of the same bytes.
 pub const REGISTER_LENGTH: usize = 11264;
 
 // How many announcements may wait, and how many rows may stand.

@@ -1,7 +1,7 @@
 // Start and session on the register's bytes.
 #![tactic(auto)]
 
-ghost use Rattle.std.specs.Prelude.{◌≡◌, ◌<◌, length, IfOk};
+ghost use Rattle.std.specs.Prelude.{◌≡◌, ◌<◌, IfOk};
 ghost use Rattle.base.specs.Numbers.{number_in};
 ghost use Rattle.dates.specs.Months.{day_count};
 ghost use Rattle.calendar.specs.Calendar.{expiry_of};
@@ -9,7 +9,7 @@ ghost use Rattle.calendar.specs.Live.{first_live};
 ghost use Rattle.rules.specs.Rulebook.{rules};
 ghost use Rattle.calls.specs.declared.Call.TheVariants.{Start, Session};
 ghost use Rattle.layout.specs.Register.{empty, running};
-ghost use Rattle.layout.specs.Bytes.{register_length, moment_of, body_of};
+ghost use Rattle.layout.specs.Bytes.{moment_of, body_of};
 ghost use Rattle.calls.specs.Listing.{number};
 ghost use Rattle.calls.specs.Answers.{after_at, listed_at};
 ghost use Rattle.calls.specs.Results.{listed_of};
@@ -20,13 +20,13 @@ use calendar::Calendar;
 use calls::Totals;
 use dates::DAYS;
 use grid::Close;
-use layout::DAY;
+use layout::{DAY, REGISTER_LENGTH};
 use register::{Opened, Running};
 use relisting::Listing;
 use rules::LiveMonths;
 
 // What is listed on a day; causes 20 and 21.
-// Kept: the facts of this file on a day, see `dates::DAYS`, and on a register's bytes, see `layout::REGISTER_LENGTH`.
+// Kept: the facts of this file on a day: see `dates::DAYS`.
 fn listing_on<'a>(calendar: Calendar<'a>, day: u16, close: u32) -> Result<Listing<'a>, Cause>
     requires { day < day_count }
     ensures cause { number_in result ≡ listing_cause (first_live (expiry_of calendar.entry.bytes.now) day) close }
@@ -62,11 +62,11 @@ fn start_listing<'a>(calendar: Calendar<'a>, day: u32, close: u32) -> Result<Lis
 // What a session lists, where the register runs; the session's own causes. After the calendar's last day no month is live.
 fn session_listing<'a>(
     before: Running<'a>,
-    register: &[u8],
+    register: &[u8; REGISTER_LENGTH],
     day: u32,
     close: u32,
 ) -> Result<Listing<'a>, Cause>
-    requires { (length register.now ≡ register_length) × ((moment_of register.now).day < day_count) }
+    requires { (moment_of register.now).day < day_count }
     ensures cause { number_in result ≡ number (rules before.entry.calendar.bytes.now) (Session day close) (running (body_of register.now)) }
     ensures listing { IfOk result (Lists before.entry.calendar.bytes.now day close) }
 {
@@ -90,6 +90,7 @@ pub fn start(calendar: &[u8], register: &mut [u8], day: u32, close: u32) -> Resu
     match register::open(calendar, register)? {
         Opened::Empty(passed) => {
             let listing = start_listing(passed, day, close)?;
+            let register = register.as_mut_array().unwrap();
             Ok(relisting::list_start(register, listing))
         }
         Opened::Running(_) => Err(Cause::Running),
@@ -104,6 +105,7 @@ pub fn session(calendar: &[u8], register: &mut [u8], day: u32, close: u32) -> Re
     let Opened::Running(before) = register::open(calendar, register)? else {
         return Err(Cause::Empty);
     };
+    let register = register.as_mut_array().unwrap();
     let listing = session_listing(before, register, day, close)?;
     Ok(relisting::list_session(register, before, listing))
 }

@@ -1,7 +1,7 @@
 // The check of a register, and how every call opens.
 #![tactic(auto)]
 
-ghost use Rattle.std.specs.Prelude.{◌≡◌, ◌&&◌, [], map, ◌≤◌, ◌<◌, length, get_or, eqb};
+ghost use Rattle.std.specs.Prelude.{◌≡◌, ◌&&◌, [], map, ◌≤◌, ◌<◌, get_or, eqb};
 ghost use Rattle.base.specs.Lists.{elem};
 ghost use Rattle.base.specs.Words.{at16};
 ghost use Rattle.dates.specs.Months.{day_count};
@@ -10,7 +10,7 @@ ghost use Rattle.calendar.specs.Live.{live_months};
 ghost use Rattle.rules.specs.Rules.{next};
 ghost use Rattle.rules.specs.Rulebook.{first_at, rules};
 ghost use Rattle.layout.specs.Register.{most_waiting, waiting_of, waiting_ok};
-ghost use Rattle.layout.specs.Bytes.{register_length, place_of, moment_of, body_of};
+ghost use Rattle.layout.specs.Bytes.{place_of, moment_of, body_of};
 ghost use Rattle.layout.specs.Spans.{spans_of, span_in};
 ghost use Rattle.register.specs.Check.{Tells, Keeps, causes_at};
 ghost use Rattle.register.specs.Opens.{Stands, Opens};
@@ -25,9 +25,7 @@ use layout::{
 use rules::LiveMonths;
 
 // Whether the bytes that are neither announcement nor row keep the layout of a running register.
-// Kept: the facts of this file on a register's bytes. Its length: see `layout::REGISTER_LENGTH`; its day beside them would be said twice.
-fn keeps_layout(register: &[u8]) -> bool
-    requires { length register.now ≡ register_length }
+fn keeps_layout(register: &[u8; REGISTER_LENGTH]) -> bool
     ensures { Tells result (Keeps register.now) }
 {
     if register[STATUS] != 1 {
@@ -57,8 +55,8 @@ fn keeps_layout(register: &[u8]) -> bool
 
 // The first live month of the next session; 1,200 where there is none.
 // Kept: no Option, since the rules count 1,200 there, and the one who asks takes it as too late like any month behind March 2099.
-pub fn next_first(calendar: Calendar<'_>, register: &[u8]) -> u16
-    requires { (length register.now ≡ register_length) × ((moment_of register.now).day < day_count) }
+pub fn next_first(calendar: Calendar<'_>, register: &[u8; REGISTER_LENGTH]) -> u16
+    requires { (moment_of register.now).day < day_count }
     ensures { result ≡ first_at calendar.entry.bytes.now (next (rules calendar.entry.bytes.now) (moment_of register.now)) }
 {
     let next = calendar::next_session(calendar.bytes, word(register, DAY));
@@ -120,8 +118,8 @@ impl Running<'_> {
 }
 
 // Whether no waiting announcement would be refused beside the others.
-fn waiting_stands(running: Running<'_>, register: &[u8]) -> bool
-    requires register_len { (length register.now ≡ register_length) × (get_or register.now 1 0 ≤ most_waiting) × ((moment_of register.now).day < day_count) }
+fn waiting_stands(running: Running<'_>, register: &[u8; REGISTER_LENGTH]) -> bool
+    requires layout { (get_or register.now 1 0 ≤ most_waiting) × ((moment_of register.now).day < day_count) }
     requires found { (running.live.first ≡ first_at running.calendar.bytes.now (moment_of register.now)) × (running.spans ≡ spans_of (body_of register.now) (live_months running.live.first)) }
     ensures { result ≡ waiting_ok (rules running.entry.calendar.bytes.now) (body_of register.now) [] (body_of register.now).waiting }
 {
@@ -139,8 +137,10 @@ fn waiting_stands(running: Running<'_>, register: &[u8]) -> bool
 }
 
 // What the check finds of a register that runs and is well formed.
-fn standing<'a>(calendar: Calendar<'a>, register: &[u8]) -> Result<Running<'a>, Cause>
-    requires { length register.now ≡ register_length }
+fn standing<'a>(
+    calendar: Calendar<'a>,
+    register: &[u8; REGISTER_LENGTH],
+) -> Result<Running<'a>, Cause>
     ensures { Stands calendar.entry.bytes.now register.now result }
 {
     if !keeps_layout(register) {
@@ -186,9 +186,9 @@ pub fn open<'a>(calendar: &'a [u8], register: &[u8]) -> Result<Opened<'a>, Cause
     ensures { Opens calendar.now register.now result }
 {
     let calendar = passing::check(calendar)?;
-    if register.len() != REGISTER_LENGTH {
+    let Ok(register) = <&[u8; REGISTER_LENGTH]>::try_from(register) else {
         return Err(Cause::RegisterLength);
-    }
+    };
     if register[STATUS] != 0 {
         return Ok(Opened::Running(standing(calendar, register)?));
     }

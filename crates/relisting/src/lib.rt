@@ -34,9 +34,7 @@ pub struct Listing<'a> {
 }
 
 // Writes status, day and row count, and clears the announcements.
-// Kept: the facts of this file on a register's length: see `layout::REGISTER_LENGTH`.
-fn write_head(register: &mut [u8], day: u16, count: u16)
-    requires { length register.old ≡ register_length }
+fn write_head(register: &mut [u8; REGISTER_LENGTH], day: u16, count: u16)
     ensures { register.new ≡ head_bytes day count ++ drop rows_from register.old }
 {
     register[..ROWS].fill(0);
@@ -46,8 +44,7 @@ fn write_head(register: &mut [u8], day: u16, count: u16)
 }
 
 // Lists all six months by their plans, from the old rows that stay. Returns the row count.
-fn list(register: &mut [u8], old: &[[u8; ROW_LENGTH]], plans: &Plans) -> u16
-    requires { length register.old ≡ register_length }
+fn list(register: &mut [u8; REGISTER_LENGTH], old: &[[u8; ROW_LENGTH]], plans: &Plans) -> u16
     ensures value { result ≡ length (ladders_from (plan_of plans.now) 0 6 (map row_of old.now)) }
     ensures register_after { register.new ≡ quiet_bytes plans.now.day (ladders_from (plan_of plans.now) 0 6 (map row_of old.now)) }
 {
@@ -59,8 +56,7 @@ fn list(register: &mut [u8], old: &[[u8; ROW_LENGTH]], plans: &Plans) -> u16
 }
 
 // A start that is not refused.
-pub fn list_start(register: &mut [u8], listing: Listing<'_>) -> Totals
-    requires { length register.old ≡ register_length }
+pub fn list_start(register: &mut [u8; REGISTER_LENGTH], listing: Listing<'_>) -> Totals
     ensures value { result ≡ answer (rules listing.entry.calendar.bytes.now) empty (running (start_body (rules listing.entry.calendar.bytes.now) (begun listing.entry.day) listing.entry.close.hundredths)) }
     ensures register_after { register.new ≡ bytes_of (running (start_body (rules listing.entry.calendar.bytes.now) (begun listing.entry.day) listing.entry.close.hundredths)) }
 {
@@ -97,20 +93,23 @@ fn dropped_rows(before: LiveMonths, live: LiveMonths, span: [u16; 2]) -> u16
 }
 
 // Lists the months of a session anew. The old rows stand in a copy; the first `dropped` of them go. Returns the row count.
-fn relist(register: &mut [u8], rows: u16, dropped: u16, plans: &Plans) -> u16
-    requires { (length register.old ≡ register_length) × (dropped ≤ rows) × (rows_from + 8 * rows ≤ register_length) }
+fn relist(register: &mut [u8; REGISTER_LENGTH], rows: u16, dropped: u16, plans: &Plans) -> u16
+    requires { (dropped ≤ rows) × (rows_from + 8 * rows ≤ register_length) }
     ensures value { result ≡ length (ladders_from (plan_of plans.now) 0 6 (drop dropped (read_rows rows (drop rows_from register.old)))) }
     ensures register_after { register.new ≡ quiet_bytes plans.now.day (ladders_from (plan_of plans.now) 0 6 (drop dropped (read_rows rows (drop rows_from register.old)))) }
 {
     // Kept: the copy is a whole register, so no length stands beside it.
-    let mut copy = [0; REGISTER_LENGTH];
-    copy.copy_from_slice(register);
+    let copy = *register;
     let (_, old) = layout::rows(&copy, usize::from(rows)).split_at(usize::from(dropped));
     list(register, old, plans)
 }
 
 // A session that is not refused. Where no month is new and no span wider, the rows stay as they are.
-pub fn list_session(register: &mut [u8], before: Running<'_>, listing: Listing<'_>) -> Totals
+pub fn list_session(
+    register: &mut [u8; REGISTER_LENGTH],
+    before: Running<'_>,
+    listing: Listing<'_>,
+) -> Totals
     requires found { Finds listing.calendar.bytes.now register.old before }
     requires next { listing.day ≡ next_session listing.calendar.bytes.now (moment_of register.old).day }
     ensures value { result ≡ answer (rules listing.entry.calendar.bytes.now) (running (body_of register.old)) (running (session_of listing.entry.calendar.bytes.now register.old listing.entry.day listing.entry.close.hundredths)) }
@@ -120,7 +119,8 @@ pub fn list_session(register: &mut [u8], before: Running<'_>, listing: Listing<'
     let months = listing.live.months();
     let held = spans::held_spans(before.live.months(), before.spans, months);
     let wide = spans::close_spans(months, held, listing.close);
-    let places = layout::places(register, usize::from(register[WAITING]));
+    let waiting = usize::from(register[WAITING]);
+    let places = layout::places(register, waiting);
     let new = spans::new_spans(places, months, held, wide);
     if before.live == listing.live && held == new {
         write_head(register, listing.day, rows);

@@ -30,7 +30,7 @@ found c w =
     c.args.before.live.latest o.first_is c.next_first-next.ensures w o.runs.spans_are c.refusal.ensures
 
 pub next_first-next-requires : goal.next_first-next-requires
-next_first-next-requires c = let r = c.requires.runs in (r.reads.size, run-day _ _ r.reads.size (runs _ _ r.well))
+next_first-next-requires c = let r = c.requires.runs in run-day _ _ r.reads.size (runs _ _ r.well)
 
 pub returns-in_err-refusal : goal.returns-in_err-refusal
 returns-in_err-refusal c =

@@ -22,7 +22,7 @@ on-next c =
 
 pub next_session-next-requires : goal.next_session-next-requires
 unfolding moment_of
-next_session-next-requires c = rw c.word.ensures c.requires.1
+next_session-next-requires c = rw c.word.ensures c.requires
 
 pub returns-then-next-lt-DAYS : goal.returns-then-next-lt-DAYS
 returns-then-next-lt-DAYS c = c.first_live.ensures ∙ on-next (goal.at.returns-then-next-lt-DAYS c).After-next_session-next

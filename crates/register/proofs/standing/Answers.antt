@@ -54,8 +54,8 @@ spans : (c : In-Some) →
 spans c w =
     let cal = c.args.calendar.bytes.now in
     let bs = c.args.register.now in
-    let l = c.requires in
-    let bytes : (i : ℕ) → get_or bs i 0 < 256 = λ i. (c.type_inv.register i).fits in
+    let l = c.told-register in
+    let bytes : (i : ℕ) → get_or bs i 0 < 256 = λ i. c.fits-register i in
     let x = c.in-Some.spans in
     let h = runs_i cal bs (stands_if cal bs l bytes x (scan c) w) in
     record {
@@ -65,7 +65,7 @@ spans c w =
     }
 
 pub returns-then-not-keeps_layout : goal.returns-then-not-keeps_layout
-returns-then-not-keeps_layout c = none_stand _ _ (λ r. clash _ (c.keeps_layout.ensures.if_holds (run_keeps _ _ c.requires r)) (c.if-not-keeps_layout.true))
+returns-then-not-keeps_layout c = none_stand _ _ (λ r. clash _ (c.keeps_layout.ensures.if_holds (run_keeps _ _ c.told-register r)) (c.if-not-keeps_layout.true))
 
 pub returns-then-day-ge-DAYS : goal.returns-then-day-ge-DAYS
 unfolding moment_of
@@ -73,17 +73,17 @@ returns-then-day-ge-DAYS c =
     let cal = c.args.calendar.bytes.now in
     let bs = c.args.register.now in
     let d = c.word-day.ensures in
-    none_stand cal bs (λ r. omega (arith, c.if-day-ge-DAYS.true, run-day cal bs c.requires r))
+    none_stand cal bs (λ r. omega (arith, c.if-day-ge-DAYS.true, run-day cal bs c.told-register r))
 
 pub returns-then-not-has_session : goal.returns-then-not-has_session
 returns-then-not-has_session c =
     let e = rw c.word-day.ensures at c.has_session.ensures in
-    none_stand _ _ (λ r. clash _ (e ∙ run-session _ _ c.requires r) (c.if-not-has_session.true))
+    none_stand _ _ (λ r. clash _ (e ∙ run-session _ _ c.told-register r) (c.if-not-has_session.true))
 
 pub returns-in_default : goal.returns-in_default
 returns-in_default c =
     let f = first_read _ c.args.register.now c.word-day.ensures c.first_live.ensures in
-    none_stand _ _ (λ r. omega (arith, c.in_default.ensures.1, f, run-first _ _ c.requires r))
+    none_stand _ _ (λ r. omega (arith, c.in_default.ensures.1, f, run-first _ _ c.told-register r))
 
 pub returns-in_default-ladders : goal.returns-in_default-ladders
 returns-in_default-ladders c =
@@ -91,7 +91,7 @@ returns-in_default-ladders c =
     let bs = c.args.register.now in
     let f = first (goal.at.returns-in_default-ladders c).In-Ok in
     let e = sym c.in_default-ladders.is ∙ found_is cal bs c.ladders.ensures c.word-day.ensures f (c.from.ensures ∙ c.word.ensures) c.rows-rows.ensures.bytes in
-    none_stand cal bs (λ r. none-some _ (e ∙ run_spans cal bs c.requires r))
+    none_stand cal bs (λ r. none-some _ (e ∙ run_spans cal bs c.told-register r))
 
 pub returns-then-register-eq0 : goal.returns-then-register-eq0
 unfolding waiting_ok body_of
@@ -99,17 +99,17 @@ returns-then-register-eq0 c =
     let bs = c.args.register.now in
     spans (goal.at.returns-then-register-eq0 c).In-Some (rw (places_none bs 8 (get_or bs 1 0) (omega (arith, c.if-register-eq0.true))))
 
-pub waiting_stands-requires-clause-register_len : goal.waiting_stands-requires-clause-register_len
+pub waiting_stands-requires-clause-layout : goal.waiting_stands-requires-clause-layout
 unfolding moment_of
-waiting_stands-requires-clause-register_len c =
-    let s = scan (goal.at.waiting_stands-requires-clause-register_len c).In-Some in
-    (c.requires, s.keeps.waiting, rw c.word-day.ensures at c.if-day-ge-DAYS.false)
+waiting_stands-requires-clause-layout c =
+    let s = scan (goal.at.waiting_stands-requires-clause-layout c).In-Some in
+    (s.keeps.waiting, rw c.word-day.ensures at c.if-day-ge-DAYS.false)
 
 pub waiting_stands-requires-clause-found : goal.waiting_stands-requires-clause-found
 waiting_stands-requires-clause-found c =
     let g = goal.at.waiting_stands-requires-clause-found c in
     let f = first g.In-Ok in
-    (f, rw f (spans_are c.args.calendar.bytes.now c.args.register.now c.requires (λ i. (c.type_inv.register i).fits) c.in-Some.spans (scan g.In-Some)))
+    (f, rw f (spans_are c.args.calendar.bytes.now c.args.register.now c.told-register (λ i. c.fits-register i) c.in-Some.spans (scan g.In-Some)))
 
 pub returns-then-not-waiting_stands : goal.returns-then-not-waiting_stands
 returns-then-not-waiting_stands c = none_stand _ _ (λ r. clash _ (c.waiting_stands.ensures ∙ r.well.sound.waits) (c.if-not-waiting_stands.true))

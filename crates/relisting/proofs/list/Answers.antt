@@ -18,4 +18,4 @@ returns-clause-register_after c =
     let p = c.args.plans.now in
     let e = c.write_ladders-end in
     (listed_head p.day (ladders_from (plan_of p) 0 6 (map row_of c.args.old.now)) e.result c.args.register.now e.new.register c.write_head.new.register
-    c.requires e.ensures.value e.ensures.register_after c.write_head.ensures).1
+    c.told-register e.ensures.value e.ensures.register_after c.write_head.ensures).1

@@ -39,7 +39,7 @@ up c =
     let bs = c.args.register.now in
     let found = c.requires.found in
     let places : map place_of c.places-places.result.now ≡ read_places (get_or bs 1 0) (drop places_from bs) =
-    rw (c.places-places.ensures.bytes, c.from.ensures) (places_chunked (get_or bs 1 0) (drop places_from bs)) in
+    rw (c.places-places.ensures.bytes, c.from-waiting.ensures) (places_chunked (get_or bs 1 0) (drop places_from bs)) in
     record {
       spans_are = found.runs.spans_are;
       before_is = found.first_is;
@@ -73,7 +73,6 @@ pub relist-count-requires : goal.relist-count-requires
 relist-count-requires c =
     let r = c.requires.found.runs in
     let k = up (goal.at.relist-count-requires c).After-new_spans-new in (
-      r.reads.size,
       up-within k c.word-rows.ensures c.dropped_rows-dropped.ensures,
       omega (arith, c.word-rows.ensures, (run_keeps c.args.listing.calendar.bytes.now c.args.register.now r.reads.size (runs c.args.listing.calendar.bytes.now c.args.register.now r.well)).count),
     )

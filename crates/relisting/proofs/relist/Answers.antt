@@ -9,7 +9,7 @@ use Rattle.relisting.proofs.relist.Goals as goal
 
 old_is : (c : After-split_at) → let a = c.args in map row_of c.split_at.result.1.now ≡ drop a.dropped (read_rows a.rows (drop rows_from a.register.now))
 old_is c =
-    rw (c.split_at.ensures.back, c.from-2.ensures, ← drop-map row_of c.args.dropped c.rows.result.now, c.rows.ensures.bytes, c.from.ensures, rows_chunked c.args.rows (drop rows_from c.copy_from_slice.new.self), c.copy_from_slice.ensures.after)
+    rw (c.split_at.ensures.back, c.from-2.ensures, ← drop-map row_of c.args.dropped c.rows.result.now, c.rows.ensures.bytes, c.from.ensures, rows_chunked c.args.rows (drop rows_from c.args.register.now))
 
 pub returns-clause-value : goal.returns-clause-value
 returns-clause-value c = rw (← old_is (goal.at.returns-clause-value c).After-split_at) c.list.ensures.value
