@@ -553,7 +553,7 @@ def rattle_causes(table: Table, _: str) -> str:
         "    }",
         "",
         "    // The month or the place that is told beside the number; 0 where none is.",
-        "    // Kept: no Option, for the same reason.",
+        "    // Kept: no Option, since `Contents` has 0 where none is told, and its conversion would add `unwrap_or(0)`.",
         "    pub fn beside(self) -> u32",
         "        ensures { result ≡ beside_of self }",
         "    {",

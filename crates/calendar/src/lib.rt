@@ -55,7 +55,8 @@ pub fn has_session(calendar: &[u8], day: u16) -> bool
     }
 }
 
-// A month's expiry date: the last session up to its third Friday.
+// A month's expiry date: the last session up to its third Friday; 0 where there is none.
+// Kept: no Option, since the rules have 0 there (`expiry_of`), and `first_live` compares it as a day, which no day reaches.
 pub fn expiry(calendar: &[u8], month: u16) -> u16
     requires { month < month_count }
     ensures { result ≡ expiry_of calendar.now month }
@@ -74,12 +75,9 @@ pub fn next_session(calendar: &[u8], day: u16) -> u16
     requires { day < day_count }
     ensures { result ≡ next_session calendar.now day }
 {
-    for next in day + 1..DAYS {
-        if has_session(calendar, next) {
-            return next;
-        }
-    }
-    DAYS
+    (day + 1..DAYS)
+        .find(|&next| has_session(calendar, next))
+        .unwrap_or(DAYS)
 }
 
 // The first live month of a day: the day's own month until it has expired, then the next.

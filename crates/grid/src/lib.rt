@@ -6,7 +6,7 @@ mod closes;
 ghost use Rattle.std.specs.Prelude.{◌≡◌, Some, None, cond, eqb, ◌+◌, ◌*◌, ◌/◌, ◌%◌, ◌≤◌};
 ghost use Rattle.base.specs.Lists.{elem};
 ghost use Rattle.grid.specs.Grid.{grid_of, required_low, required_high, lowest_close, highest_close, close_taken};
-ghost use Rattle.grid.specs.Numbers.{price, some_number, stride, top_number, Rounded, NearestNumber, RequiredNumbers, band_step, band_end};
+ghost use Rattle.grid.specs.Numbers.{price, some_number, stride, top_number, Rounded, NearestNumber, band_step, band_end};
 ghost use Rattle.grid.specs.Closes.{CloseOf};
 
 use base::{Cause, Tier};
@@ -24,13 +24,6 @@ impl TryFrom<u32> for Close {
             Err(Cause::Close)
         }
     }
-}
-
-// A run of prices of a grid by number, both ends included.
-#[derive(Clone, Copy)]
-pub struct Numbers {
-    pub low: u16,
-    pub high: u16,
 }
 
 // A run of prices of a grid, both ends included.
@@ -54,7 +47,7 @@ pub fn stride_of(tier: Tier) -> u16
     }
 }
 
-// Kept: an enum of the three bands would be made from the number by these same ranges, and then be matched again.
+// Kept: the ranges are the table of the three bands. One of numbers, prices, steps and ends needs a search by number and one by price, each with an invariant.
 pub fn price_at(number: u16) -> u16
     requires { number ≤ top_number }
     ensures { result ≡ price number }
@@ -112,7 +105,7 @@ fn rounded(height: u32, step: u32) -> u16
     requires { (height ≤ highest_close) × (500 ≤ step) × (step ≤ 10000) }
     ensures { Rounded height step result }
 {
-    // Kept: `as`, since `try_from` would need an answer for more steps than 65,535, and a close has 1,909 at most.
+    // Kept: the cast. The check proves that it loses nothing; `try_from(..).unwrap()` would need the same proof and says it in more words.
     let below = (height / step) as u16;
     if 2 * (height % step) < step {
         below
@@ -136,26 +129,15 @@ pub fn nearest_number(tier: Tier, close: Close) -> u16
     }
 }
 
-// The numbers of the lowest and the highest price that a close requires. The neighbours are 16 numbers each way in every
-// tier: 16 prices at stride 1, 8 at stride 2, 4 at stride 4.
-pub fn required_numbers(tier: Tier, close: Close) -> Numbers
-    ensures { RequiredNumbers tier close.hundredths result.low result.high }
-{
-    let j = nearest_number(tier, close);
-    Numbers {
-        low: j - 16,
-        high: j + 16,
-    }
-}
-
-// The lowest and the highest price that a close requires.
+// The lowest and the highest price that a close requires. The neighbours are 16 numbers each way in every tier: 16 prices at
+// stride 1, 8 at stride 2, 4 at stride 4.
 pub fn required_strikes(tier: Tier, close: Close) -> Strikes
     ensures { (result.low ≡ required_low tier close.hundredths) × (result.high ≡ required_high tier close.hundredths) }
 {
-    let numbers = required_numbers(tier, close);
+    let j = nearest_number(tier, close);
     Strikes {
-        low: price_at(numbers.low),
-        high: price_at(numbers.high),
+        low: price_at(j - 16),
+        high: price_at(j + 16),
     }
 }
 

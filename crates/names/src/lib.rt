@@ -82,6 +82,7 @@ impl From<Result<Named, Cause>> for Series {
             },
             Err(cause) => Series {
                 number: cause.number(),
+                // Kept: no `cause.beside()`, which tells a calendar's month and a file's place too, where `Series` has 0.
                 month: match cause {
                     Cause::NameByte(place) => place,
                     _ => 0,
@@ -101,7 +102,8 @@ fn no_series(month: u32, kind: Kind, price: u32) -> bool
 }
 
 // The last decimal digit of a number, in ASCII.
-// Kept: the casts of this file, of a rest or a place below 24: `try_from` would need an answer for more, which is proved not to come.
+// Kept: `digit` and `pair`, since `char::from_digit` and `to_digit` are of chars, not of bytes, and give an Option that no digit needs.
+// Kept: the casts of this file. The check proves that they lose nothing; `try_from(..).unwrap()` would need the same proof and says it in more words.
 fn digit(number: u32) -> u8
     ensures { result ≡ 48 + number % 10 }
 {
@@ -127,6 +129,7 @@ pub fn put(name: &mut [u8], month: u32, kind: Kind, price: u32)
 }
 
 // Writes the name of a series; a refusal leaves the buffer as it was.
+// Kept: `kind` is a number, since C gives one, and a narrower type asks more of callers.
 pub fn write(name: &mut [u8], month: u32, kind: u32, price: u32) -> Result<(), Cause>
     ensures value { number_in result ≡ write_cause name.old month kind price }
     ensures name_after { name.new ≡ written name.old month kind price }
@@ -174,6 +177,9 @@ fn pair(tens: u8, ones: u8) -> u16
     10 * u16::from(tens - b'0') + u16::from(ones - b'0')
 }
 
+// How many letters calls have, A to L; puts have those behind them.
+const CALLS: u16 = 12;
+
 // The series of which a name's bytes tell, where each can stand.
 fn told(name: &[u8; LENGTH]) -> Named
     requires { name_length ≤ first_in (misplaced name.now) 0 name_length }
@@ -182,7 +188,11 @@ fn told(name: &[u8; LENGTH]) -> Named
     let letter = u16::from(name[4] - b'A');
     Named {
         month: 12 * pair(name[5], name[6]) + letter % 12,
-        kind: if letter < 12 { Kind::Call } else { Kind::Put },
+        kind: if letter < CALLS {
+            Kind::Call
+        } else {
+            Kind::Put
+        },
         price: 100 * pair(name[7], name[8]) + pair(name[9], name[10]),
     }
 }

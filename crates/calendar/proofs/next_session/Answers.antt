@@ -1,21 +1,26 @@
--- `calendar::next_session` meets its contract. The loop keeps an equation: the search from `next` on is the whole search.
+-- `calendar::next_session` meets its contract: what the search finds is the first session, and where it finds none there is none.
 -- Assumes nothing.
-use mathlib.Core.Path.{refl, sym, ◌∙◌}
-use native.Mathlib.Omega.{arith}
-use Rattle.base.proofs.SearchLaws.{first_end, first_hit, first_miss}
+use Rattle.std.proofs.Common.{◌≡◌, ◌∙◌, ◌+◌, ◌≤◌, ◌<◌, ℕ, Bool, sym, true, false, arith, rules, tests}
+use Rattle.std.specs.Prelude.{Option, Some, None, MatchOption}
+use Rattle.std.specs.Option.{unwrap_or}
+use Rattle.std.proofs.lemmas.Iterator.{first_from_Range}
+use Rattle.base.specs.Search.{first_in}
+use Rattle.base.proofs.SearchLaws.{first_end, first_hit, first_skip}
 use Rattle.dates.specs.Months.{day_count}
 use Rattle.calendar.specs.Calendar.{session, next_session}
 use Rattle.calendar.proofs.next_session.Goals as goal
 
-pub loop-next-init : goal.loop-next-init
-unfolding next_session
-loop-next-init c = refl
-
-pub returns-then-has_session : goal.returns-then-has_session
-returns-then-has_session c = sym (c.loop-next.invariant ∙ first_hit _ _ _ c.loop-next-test.true (sym c.has_session.ensures ∙ c.if-has_session.true))
-
-pub loop-next-preserved : goal.loop-next-preserved
-loop-next-preserved c = c.loop-next.invariant ∙ first_miss _ _ _ c.loop-next-test.true (sym c.has_session.ensures ∙ c.if-has_session.false)
+first_of : (p : ℕ → Bool) (a b : ℕ) (r : Option ℕ) → a ≤ b
+    → MatchOption r ((k : ℕ) → a ≤ k → k < b → p k ≡ false) (λ i. (a ≤ i) × (i < b) × (p i ≡ true) × ((k : ℕ) → a ≤ k → k < i → p k ≡ false))
+    → unwrap_or r b ≡ first_in p a b
+first_of p a b None h none = sym (first_skip p a b b h (omega arith) none ∙ first_end p b b (omega arith))
+first_of p a b (Some i) h some = sym (first_skip p a i b some.0 (omega (arith, some.1)) some.3 ∙ first_hit p i b some.1 some.2)
 
 pub returns : goal.returns
-returns c = omega (arith, c.loop-next.invariant, first_end (session c.args.calendar.now) c.loop-next.next day_count (omega arith))
+unfolding next_session
+returns c =
+    let p = session c.args.calendar.now in
+    let found = first_from_Range _ _ _ _ (λ i. p i ≡ true) (λ i. p i ≡ false) c.find.ensures.ran
+    (λ x q k. search (rules, tests))
+    (λ x q k. (search rules, search (rules, tests))) in
+    c.unwrap_or.ensures ∙ first_of p (c.args.day + 1) day_count c.find.result (omega arith) found

@@ -6,7 +6,7 @@ use Rattle.names.specs.Kinds.{kind_number}
 use Rattle.names.specs.Names.{kind_read}
 use Rattle.names.proofs.ReadLaws.{is-letter, is_digit, month_pair, price_pairs}
 use Rattle.names.proofs.told.Goals as goal
-use Rattle.names.proofs.told.Goals.{then-letter-lt12, else-letter-lt12}
+use Rattle.names.proofs.told.Goals.{then-letter-lt-CALLS, else-letter-lt-CALLS}
 
 pub overflow_sub-name : goal.overflow_sub-name
 overflow_sub-name c = within_l _ _ _ (is-letter c.args.name.now c.requires)
@@ -26,9 +26,9 @@ returns c =
     let name = c.args.name.now in
     let long : length name ≡ 11 = omega arith in
     let most = within_r _ _ _ (is-letter name c.requires) in
-    let kind : kind_number c.if-letter-lt12.result ≡ kind_read name =
-    elim c.if-letter-lt12.branch [
-      | then-letter-lt12 w ↦ rw w.result-is (omega (arith, c.from-letter.ensures))
-      | else-letter-lt12 w ↦ rw w.result-is (omega (arith, most, c.from-letter.ensures))
+    let kind : kind_number c.if-letter-lt-CALLS.result ≡ kind_read name =
+    elim c.if-letter-lt-CALLS.branch [
+      | then-letter-lt-CALLS w ↦ rw w.result-is (omega (arith, c.from-letter.ensures))
+      | else-letter-lt-CALLS w ↦ rw w.result-is (omega (arith, most, c.from-letter.ensures))
     ] in
     (rw (c.pair.ensures.0, c.from-letter.ensures, month_pair name long), kind, rw (c.pair-2.ensures.0, c.pair-3.ensures.0, price_pairs name long))
