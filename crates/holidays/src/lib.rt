@@ -40,7 +40,7 @@ impl Display for Reason {
 pub type Refused<'a> = lines::Refused<'a, Reason>;
 
 // Why no calendar is made. It is of no use then.
-// Kept: an Option of the line would hold as much, but a None in it would not say that the length is wrong.
+// Kept: the public `make` takes any slice, where an array would ask more of callers; an Option of the line would not name the length.
 #[derive(Clone, Copy, Debug)]
 pub enum Fault<'a> {
     // The calendar has not 4,566 bytes.
@@ -139,13 +139,11 @@ pub fn make<'a>(list: &'a [u8], calendar: &mut [u8]) -> Result<(), Fault<'a>> {
     }
     set_weekdays(calendar);
     for (number, line) in (1u32..).zip(list.split(|&byte| byte == b'\n')) {
-        if let Err(reason) = take(line, calendar) {
-            return Err(Fault::Line(Refused {
-                number,
-                line,
-                reason,
-            }));
-        }
+        take(line, calendar).map_err(|reason| Fault::Line(Refused {
+            number,
+            line,
+            reason,
+        }))?;
     }
     Ok(())
 }

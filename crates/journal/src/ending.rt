@@ -58,14 +58,15 @@ fn is_answered(line: &[u8]) -> bool {
 
 // The text in the first bytes of a room, with a line feed more where its last line is a call with its answer and lacks that
 // alone.
+// Kept: room and length stand apart, since the line feed is written behind the text, where a slice of the text would end.
 pub fn ended<'a>(room: &'a mut [u8], length: usize) -> &'a [u8] {
     let text = room.get(..length).unwrap_or(&[]);
     let last = text.rsplit(|&byte| byte == b'\n').next();
-    if last.is_some_and(is_answered) {
-        if let Some(behind) = room.get_mut(length) {
-            *behind = b'\n';
-            return &room[..=length];
-        }
+    if last.is_some_and(is_answered)
+        && let Some(behind) = room.get_mut(length)
+    {
+        *behind = b'\n';
+        return &room[..=length];
     }
     room.get(..length).unwrap_or(&[])
 }

@@ -45,19 +45,21 @@ pub fn is_name(word: &[u8]) -> bool {
     matches!(word, b"start" | b"session" | b"announce")
 }
 
-// The arguments of a start or a session.
-fn day_and_close(words: &mut Words<'_>) -> Result<(u32, u32), Reason> {
-    let day = words.next().and_then(text::read_day).ok_or(Reason::Day)?;
-    let close = words.next().and_then(text::read_close);
-    Ok((day, close.ok_or(Reason::Close)?))
+// The next argument as it is read, or why there is none.
+fn argument<R: FnOnce(&[u8]) -> Option<u32>>(
+    words: &mut Words<'_>,
+    read: R,
+    why: Reason,
+) -> Result<u32, Reason>
+    requires { R.IsAlwaysCallable read }
+{
+    words.next().and_then(read).ok_or(why)
 }
 
-// The arguments of an announcement.
-fn month_and_price(words: &mut Words<'_>) -> Result<(u32, u32), Reason> {
-    let month = words.next().and_then(text::read_month);
-    let month = month.ok_or(Reason::Month)?;
-    let price = words.next().and_then(text::read_number);
-    Ok((month, price.ok_or(Reason::Price)?))
+// The arguments of a start or a session.
+fn day_and_close(words: &mut Words<'_>) -> Result<(u32, u32), Reason> {
+    let day = argument(words, text::read_day, Reason::Day)?;
+    Ok((day, argument(words, text::read_close, Reason::Close)?))
 }
 
 // Whether behind the arguments stands nothing, or `=` and perhaps a number. The words behind the number are not read here.
@@ -86,7 +88,8 @@ pub fn call_in(line: &[u8]) -> Result<Option<Call>, Reason> {
             Call::Session(day, close)
         }
         Some(b"announce") => {
-            let (month, price) = month_and_price(&mut words)?;
+            let month = argument(&mut words, text::read_month, Reason::Month)?;
+            let price = argument(&mut words, text::read_number, Reason::Price)?;
             Call::Announce(month, price)
         }
         Some(_) => return Err(Reason::NotCall),
@@ -98,6 +101,7 @@ pub fn call_in(line: &[u8]) -> Result<Option<Call>, Reason> {
     }
 }
 
+// Kept: list and count stand apart here and in `read`: the caller takes as many numbers as calls, and would ask a slice for its length.
 // Takes a line's call behind the `count` that are taken, and answers how many there are then.
 fn take(line: &[u8], calls: &mut [Call], count: usize) -> Result<usize, Reason>
     requires { count ≤ length calls.old }
@@ -120,16 +124,11 @@ pub fn read<'a>(text: &'a [u8], calls: &mut [Call]) -> Result<usize, Refused<'a>
 {
     let mut count = 0;
     for (number, line) in Numbered::of(text) {
-        count = match take(line, calls, count) {
-            Ok(count) => count,
-            Err(reason) => {
-                return Err(Refused {
-                    number,
-                    line,
-                    reason,
-                });
-            }
-        };
+        count = take(line, calls, count).map_err(|reason| Refused {
+            number,
+            line,
+            reason,
+        })?;
     }
     Ok(count)
 }

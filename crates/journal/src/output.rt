@@ -6,32 +6,37 @@ use std::fmt;
 use std::fmt::Display;
 use text::{Date, Month, Points};
 
-// A day; as its number where the calendar has none such.
+// A day or a month; as its number from the end of the calendar on.
 #[derive(Drop)]
-struct DayOrNumber(u32);
+struct OrNumber<T> {
+    number: u32,
+    end: u16,
+    shown: T,
+}
 
-impl Display for DayOrNumber {
-    fn fmt<W: fmt::Write>(&self, f: &mut fmt::Formatter<W>) -> fmt::Result {
-        let day = self.0;
-        if day < u32::from(DAYS) {
-            write!(f, "{}", Date(day))
-        } else {
-            write!(f, "{day}")
-        }
+fn day_or_number(day: u32) -> OrNumber<Date> {
+    OrNumber {
+        number: day,
+        end: DAYS,
+        shown: Date(day),
     }
 }
 
-// A month; as its number behind the last.
-#[derive(Drop)]
-struct MonthOrNumber(u32);
+fn month_or_number(month: u32) -> OrNumber<Month> {
+    OrNumber {
+        number: month,
+        end: MONTHS,
+        shown: Month(month),
+    }
+}
 
-impl Display for MonthOrNumber {
+impl<T: Display> Display for OrNumber<T> {
     fn fmt<W: fmt::Write>(&self, f: &mut fmt::Formatter<W>) -> fmt::Result {
-        let month = self.0;
-        if month < u32::from(MONTHS) {
-            write!(f, "{}", Month(month))
+        let number = self.number;
+        if number < u32::from(self.end) {
+            self.shown.fmt(f)
         } else {
-            write!(f, "{month}")
+            write!(f, "{number}")
         }
     }
 }
@@ -43,14 +48,16 @@ struct Named(Call);
 impl Display for Named {
     fn fmt<W: fmt::Write>(&self, f: &mut fmt::Formatter<W>) -> fmt::Result {
         match self.0 {
-            Call::Start(day, close) => write!(f, "start {} {}", DayOrNumber(day), Points(close)),
+            Call::Start(day, close) => write!(f, "start {} {}", day_or_number(day), Points(close)),
             Call::Session(day, close) => write!(
                 f,
                 "session {} {}",
-                DayOrNumber(day),
+                day_or_number(day),
                 Points(close)
             ),
-            Call::Announce(month, price) => write!(f, "announce {} {price}", MonthOrNumber(month)),
+            Call::Announce(month, price) => {
+                write!(f, "announce {} {price}", month_or_number(month))
+            }
         }
     }
 }
@@ -71,7 +78,7 @@ impl Display for Answered {
             Ok(Answer::Announced(waiting)) => write!(f, "0 waiting {waiting}"),
             Err(Cause::CalendarMonth(month)) => {
                 let number = Cause::CalendarMonth(month).number();
-                let month = MonthOrNumber(u32::from(month));
+                let month = month_or_number(u32::from(month));
                 write!(f, "{number} {month}")
             }
             Err(cause) => write!(f, "{}", cause.number()),

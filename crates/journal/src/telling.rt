@@ -17,15 +17,9 @@ fn told(line: &[u8]) -> Words<'_> {
 // Whether a line tells what its call's answer is. What it leaves out, all from `=` on or the values beside the number, is not
 // compared.
 pub fn agrees(line: &[u8], answer: Result<Answer, Cause>) -> bool {
-    let mut given = Text::<128>::new();
-    given.say(Answered(answer));
+    let given = Text::<128>::of(Answered(answer));
     let mut given = Words::of(given.as_bytes());
-    for word in told(line) {
-        if given.next() != Some(word) {
-            return false;
-        }
-    }
-    true
+    told(line).all(|word| given.next() == Some(word))
 }
 
 // What stands behind the sign `=`: the number, and the values beside it.

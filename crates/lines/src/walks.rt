@@ -76,10 +76,8 @@ impl<'a> Iterator for Numbered<'a> {
 // The lines before that of a number.
 pub fn before(text: &[u8], number: u32) -> &[u8] {
     let mut lines = Numbered::of(text);
-    for _ in 1..number {
-        if lines.next().is_none() {
-            return text;
-        }
+    if (1..number).any(|_| lines.next().is_none()) {
+        return text;
     }
     let end = text.len().saturating_sub(lines.rest().len());
     &text[..end]

@@ -48,6 +48,19 @@ impl Display for SeriesName {
     }
 }
 
+// What a series is an option of, in a word that pads as a text does.
+#[derive(Clone, Copy, PartialEq, Eq, Debug)]
+pub struct KindName(pub Kind);
+
+impl Display for KindName {
+    fn fmt<W: fmt::Write>(&self, f: &mut fmt::Formatter<W>) -> fmt::Result {
+        f.pad(match self.0 {
+            Kind::Call => "call",
+            Kind::Put => "put",
+        })
+    }
+}
+
 // Why a row was listed, by the byte that it has for its origin.
 #[derive(Clone, Copy, PartialEq, Eq, Debug)]
 pub struct OriginByte(pub u8);

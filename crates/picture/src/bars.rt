@@ -56,6 +56,7 @@ impl Display for Bar {
     }
 }
 
+// Kept: expiry and span are a call each, as in `report` and `inquiry`; a type of the two would be taken apart again for the texts.
 // A live month: its ladder before a pale ground that shows the span, with the lowest and the highest price at its ends.
 #[derive(Clone, Copy)]
 struct Column<'a> {

@@ -2,7 +2,7 @@
 ghost use Rattle.std.specs.Prelude.{◌<◌, ◌≤◌};
 
 use crate::shapes::Pixels;
-use reading::{Register, Span};
+use reading::{PAST_PRICES, Register, Span};
 use std::fmt;
 use std::fmt::Display;
 
@@ -10,9 +10,6 @@ use std::fmt::Display;
 const TOP: u32 = 1700;
 
 const BOTTOM: u32 = 11000;
-
-// No price is as high as this: a name has four digits for it.
-const PAST_PRICES: u32 = 10000;
 
 // The lowest and the highest price of all rows.
 #[derive(Clone, Copy)]

@@ -4,7 +4,7 @@
 // `refusal` alone looks whether the register stands. What is told of live months and of their rows is so where it does.
 #![tactic(auto)]
 
-ghost use Rattle.std.specs.Prelude.{◌≤◌};
+ghost use Rattle.std.specs.Prelude.{◌≡◌, ◌≤◌, eqb, get_or};
 ghost use Rattle.dates.specs.Months.{month_count};
 
 mod places;
@@ -12,7 +12,7 @@ mod places;
 use base::{Cause, Tier};
 use dates::MONTHS;
 use layout::{COUNT, DAY, MONTH, PLACE_LENGTH, PLACES, ROW_LENGTH, ROWS, SPARE, STATUS, WAITING};
-pub use places::{Announcement, Announcements, Records, Row, Rows, Span};
+pub use places::{Announcement, Announcements, PAST_PRICES, Records, Row, Rows, Span};
 
 // A register under its calendar.
 #[derive(Clone, Copy)]
@@ -47,7 +47,10 @@ pub fn part_at(place: usize) -> Part {
 }
 
 impl<'a> Register<'a> {
-    fn byte(self, at: usize) -> u8 {
+    // Kept: zeros for what is missing, here, in `word` and in `row`: each question would pass an Option on, for callers to say zero to.
+    fn byte(self, at: usize) -> u8
+        ensures { result ≡ get_or self.entry.bytes.now at 0 }
+    {
         self.bytes.get(at).copied().unwrap_or(0)
     }
 
@@ -64,12 +67,20 @@ impl<'a> Register<'a> {
     }
 
     // 0 empty, 1 running.
+    // Kept: the byte itself, since an audit tells each that a damaged register may have there.
     pub fn status(self) -> u8 {
         self.byte(STATUS)
     }
 
+    // Whether it lists nothing yet.
+    pub fn is_empty(self) -> bool
+        ensures { result ≡ eqb (get_or self.entry.bytes.now 0 0) 0 }
+    {
+        self.byte(STATUS) == 0
+    }
+
     // How many announcements wait.
-    // Kept: this and the two below are a line each; one function for them would be asked for a place, which this crate alone knows.
+    // Kept: `day`, `waiting` and `row_count` share only `byte` and `word`, which are that one function.
     pub fn waiting(self) -> u32 {
         u32::from(self.byte(WAITING))
     }

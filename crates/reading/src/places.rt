@@ -42,6 +42,9 @@ impl From<[u8; ROW_LENGTH]> for Row {
     }
 }
 
+// No price is as high as this: a name has four digits for it.
+pub const PAST_PRICES: u32 = 10000;
+
 // The lowest and the highest price of a ladder.
 #[derive(Clone, Copy, PartialEq, Eq, Debug)]
 pub struct Span {
@@ -124,6 +127,7 @@ impl<'a> Records<'a, Row, ROW_LENGTH> {
     }
 
     // How many rows stand before those of a month.
+    // Kept: searched from the start; a damaged register's rows need not ascend, and `partition_point` would tell others of them.
     fn number_before(self, month: u32) -> usize {
         let mut rows = self;
         let behind = rows.position(|row| month <= row.month);

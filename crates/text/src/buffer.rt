@@ -5,6 +5,7 @@ use std::fmt;
 use std::fmt::{Display, Write};
 use std::marker::Model;
 
+// Kept: the room and its length, since there is no heap; std has no such room, and a Vec's push fails where this one cuts.
 #[derive(Drop)]
 pub struct Text<const N: usize> {
     room: [u8; N],
@@ -28,6 +29,13 @@ impl<const N: usize> Text<N> {
             room: [0; N],
             length: 0,
         }
+    }
+
+    // A new text of what a value is displayed as. There is no contract to give: clauses see no display, and N bounds every text.
+    pub fn of(what: impl Display + Drop) -> Self {
+        let mut text = Text::new();
+        text.say(what);
+        text
     }
 
     // Puts bytes behind those that are there.

@@ -1,4 +1,5 @@
 // Days, months, closes and counted things, as they are told.
+use crate::read::FIRST_YEAR;
 use dates::MONTHS;
 use std::fmt;
 use std::fmt::Display;
@@ -32,7 +33,7 @@ impl Display for Month {
         if u32::from(MONTHS) <= month {
             return write!(f, "month {month}");
         }
-        let year = 2000 + month / 12;
+        let year = FIRST_YEAR + month / 12;
         let place = month % 12 + 1;
         write!(f, "{year}-{place:02}")
     }
