@@ -25,6 +25,7 @@ use layout::{
 use rules::LiveMonths;
 
 // Whether the bytes that are neither announcement nor row keep the layout of a running register.
+// Kept: the facts of this file on a register's day: in `Running` it would be said a second time, beside the register's bytes.
 fn keeps_layout(register: &[u8; REGISTER_LENGTH]) -> bool
     ensures { Tells result (Keeps register.now) }
 {
