@@ -58,7 +58,7 @@ pub struct Written<'a> {
 fn covers(span: &Strikes, price: u16) -> bool
     ensures { result ≡ within span.now.low span.now.high price }
 {
-    span.low <= price && price <= span.high
+    (span.low..=span.high).contains(&price)
 }
 
 // An end, moved forward to an edge where one lies between it and a price.
@@ -121,7 +121,7 @@ impl Plan {
         }
     }
 
-    // Kept: the casts of this file. A price steps in 64 bits and is below 10,000; `try_from` would need an answer for what never happens.
+    // Kept: the casts of this file. The check proves that they lose nothing; try_from(..).unwrap() would need the same proof and says it in more words.
     // The rows from a price on: the first of the old rows where that is its row, else those that are added up to the next change.
     fn stretch_from<'a>(&self, old: &'a [[u8; ROW_LENGTH]], price: u64) -> Found<'a>
         requires { (0 < price) × (price < 10000) }

@@ -7,7 +7,7 @@ use grid::Strikes;
 use layout::Origin;
 
 // A day, its live months, and of each month its span before, that span as the close alone widens it, and its span of the day.
-// Kept: the six spans are arrays of pairs by value, and zeros stand for a month that held none, as the definitions have them.
+// Kept: six pairs, zeros for a month that held none. As Options of `Strikes` they would be made by five `map`s in relisting, for three calls in `plan`.
 #[derive(Drop)]
 pub struct Plans {
     // The first day of a row that is added.

@@ -38,7 +38,7 @@ impl From<Result<u32, Cause>> for Written {
 }
 
 // Writes the file of a register and answers its length. An entry point: it takes any bytes.
-// Kept: the cast. No file is longer than `MOST_LENGTH`, and `try_from` would need an answer for one that is.
+// Kept: the casts of this file. The check proves that they lose nothing; try_from(..).unwrap() would need the same proof and says it in more words.
 pub fn write(calendar: &[u8], register: &[u8], file: &mut [u8]) -> Result<u32, Cause>
     ensures value { written_of result ≡ file_at calendar.now register.now file.old }
     ensures file_after { file.new ≡ file_after (rules calendar.now) register.now file.old }

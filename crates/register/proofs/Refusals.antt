@@ -5,16 +5,15 @@ use mathlib.Core.Bool.{Bool, true, false, false≢true, true≢false}
 use mathlib.Core.List.{List}
 use Prim.Native.Nat.{ℕ, ◌≤◌, ◌<◌}
 use native.Mathlib.Omega.{arith}
-use lib.Dec.{leb}
 use Rattle.std.specs.Prelude.{Result, Ok, Err, is_err}
 use Rattle.base.specs.Numbers.{number_in}
 use Rattle.base.specs.declared.causes.Cause.{Cause}
 use Rattle.base.proofs.NumberLaws.{number-from}
 use lib.ListN.{get_or}
-use borrow.Author.Tests.{lt-ltb, le-ltb, le-leb, lt-leb}
+use borrow.Author.Tests.{lt-ltb, le-ltb}
 use Rattle.base.specs.Lists.{elem, within}
 use Rattle.base.specs.Causes.{cause, first_cause}
-use Rattle.base.proofs.Tests.{by_le, or_r, and_no}
+use Rattle.base.proofs.Tests.{or_r}
 use Rattle.calendar.specs.Live.{live_months, tier_of}
 use Rattle.grid.specs.Grid.{grid_of}
 use Rattle.rules.specs.Rules.{last_first_month}
@@ -55,13 +54,10 @@ module _ (first next : ℕ) (span : List ℕ) (waits : Bool) (m p : ℕ) where
           unfolding causes_at cause first_cause
           waiting w = rw (le-ltb last_first_month next l, e, le-ltb m next h, g, or_r (within (get_or span 0 0) (get_or span 1 0) p) waits w)
 
-          pub inside : get_or span 0 0 ≤ p → p ≤ get_or span 1 0 → causes_at first next span waits m p ≡ 24
-          unfolding causes_at cause first_cause within
-          inside a b = rw (le-ltb last_first_month next l, e, le-ltb m next h, g, le-leb (get_or span 0 0) p a, le-leb p (get_or span 1 0) b)
+          pub inside : within (get_or span 0 0) (get_or span 1 0) p ≡ true → causes_at first next span waits m p ≡ 24
+          unfolding causes_at cause first_cause
+          inside a = rw (le-ltb last_first_month next l, e, le-ltb m next h, g, a)
 
-          pub outside : waits ≡ false → (get_or span 0 0 ≤ p → get_or span 1 0 < p) → causes_at first next span waits m p ≡ 0
-          unfolding causes_at cause first_cause within
-          outside w above =
-              by_le (get_or span 0 0) p
-              (λ a. rw (le-ltb last_first_month next l, e, le-ltb m next h, g, and_no (leb (get_or span 0 0) p) _ (lt-leb p (get_or span 1 0) (above a)), w))
-              (λ a. rw (le-ltb last_first_month next l, e, le-ltb m next h, g, lt-leb (get_or span 0 0) p a, w))
+          pub outside : waits ≡ false → within (get_or span 0 0) (get_or span 1 0) p ≡ false → causes_at first next span waits m p ≡ 0
+          unfolding causes_at cause first_cause
+          outside w a = rw (le-ltb last_first_month next l, e, le-ltb m next h, g, a, w)

@@ -27,7 +27,6 @@ use Rattle.layout.specs.Register.{most_waiting, Body, span_low, span_high, same_
 use Rattle.base.specs.Words.{at16}
 use Rattle.layout.specs.Bytes.{read_rows, moment_of, body_of, rows_bytes, register_length, rows_from, rows_length}
 use Rattle.layout.specs.Spans.{runs_well, spans_of}
-use Rattle.base.specs.declared.causes.Cause.TheVariants.{RegisterForm}
 use Rattle.register.specs.Check.{Keeps}
 use Rattle.scan.specs.Scan.{scanned, rows_at, ladder_spans}
 use Rattle.layout.proofs.RowLaws.{rows_of_same, all_some}
@@ -167,5 +166,5 @@ module _ (cal bs : List ℕ) (l : length bs ≡ register_length) (bytes : (i : �
 
 -- ---- the answers
 module _ (cal bs : List ℕ) where
-  pub none_stand : (Running cal bs → ⊥) → (runs_well cal bs ≡ false) × (RegisterForm ≡ RegisterForm)
-  none_stand never = (by_bool (runs_well cal bs) (λ h. absurd (never (runs cal bs h))) (λ h. h), refl)
+  pub none_stand : (Running cal bs → ⊥) → runs_well cal bs ≡ false
+  none_stand never = by_bool (runs_well cal bs) (λ h. absurd (never (runs cal bs h))) (λ h. h)

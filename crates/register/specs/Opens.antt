@@ -1,8 +1,7 @@
 -- How every call opens: by a cause that every call has, on an empty register, or on one that runs and is well formed.
 -- Assumes nothing.
-use Rattle.std.specs.Prelude.{◌≡◌, false, List, ℕ, Result, Ok, Err}
+use Rattle.std.specs.Prelude.{◌≡◌, false, List, ℕ, Option, Some, None, Result, Ok, Err}
 use Rattle.base.specs.declared.causes.Cause.{Cause}
-use Rattle.base.specs.declared.causes.Cause.TheVariants.{RegisterForm}
 use Rattle.rules.specs.Rulebook.{first_at}
 use Rattle.layout.specs.Register.{empty}
 use Rattle.layout.specs.Bytes.{moment_of}
@@ -18,10 +17,10 @@ pub record Finds (calendar bs : List ℕ) (running : Running) : Type 0 where
   pub calendar_is : running.calendar.bytes.now ≡ calendar
   pub first_is : running.live.first ≡ first_at calendar (moment_of bs)
 
--- any other is cause 15
-abbrev pub Stands : List ℕ → List ℕ → Result Running Cause → Type 0
-Stands calendar bs (Ok running) = Finds calendar bs running
-Stands calendar bs (Err why) = (runs_well calendar bs ≡ false) × (why ≡ RegisterForm)
+-- any other does not run well
+abbrev pub Stands : List ℕ → List ℕ → Option Running → Type 0
+Stands calendar bs (Some running) = Finds calendar bs running
+Stands calendar bs None = runs_well calendar bs ≡ false
 
 abbrev pub Opens : List ℕ → List ℕ → Result Opened Cause → Type 0
 Opens calendar bs (Ok (Opened.Empty passed)) = Reads calendar bs empty × (passed.bytes.now ≡ calendar)

@@ -29,29 +29,15 @@ use rules::LiveMonths;
 fn keeps_layout(register: &[u8; REGISTER_LENGTH]) -> bool
     ensures { Tells result (Keeps register.now) }
 {
-    if register[STATUS] != 1 {
-        return false;
-    }
     let waiting = usize::from(register[WAITING]);
-    if MOST_WAITING < waiting {
-        return false;
-    }
-    if register[UNUSED] != 0 {
-        return false;
-    }
-    if register[UNUSED + 1] != 0 {
-        return false;
-    }
     let rows = usize::from(word(register, COUNT));
-    if MOST_ROWS < rows {
-        return false;
-    }
-    let unused = PLACES + PLACE_LENGTH * waiting;
-    if !layout::is_zero(&register[unused..ROWS]) {
-        return false;
-    }
-    let behind = ROWS + ROW_LENGTH * rows;
-    layout::is_zero(&register[behind..])
+    register[STATUS] == 1
+        && waiting <= MOST_WAITING
+        && register[UNUSED] == 0
+        && register[UNUSED + 1] == 0
+        && rows <= MOST_ROWS
+        && layout::is_zero(&register[PLACES + PLACE_LENGTH * waiting..ROWS])
+        && layout::is_zero(&register[ROWS + ROW_LENGTH * rows..])
 }
 
 // The first live month of the next session; 1,200 where there is none.
@@ -111,7 +97,7 @@ impl Running<'_> {
             return Err(Cause::AnnounceKnown);
         }
         let [low, high] = self.spans[i];
-        if u32::from(low) <= price && price <= u32::from(high) {
+        if (u32::from(low)..=u32::from(high)).contains(&price) {
             return Err(Cause::AnnounceKnown);
         }
         Ok(())
@@ -138,41 +124,36 @@ fn waiting_stands(running: Running<'_>, register: &[u8; REGISTER_LENGTH]) -> boo
 }
 
 // What the check finds of a register that runs and is well formed.
-fn standing<'a>(
-    calendar: Calendar<'a>,
-    register: &[u8; REGISTER_LENGTH],
-) -> Result<Running<'a>, Cause>
+fn standing<'a>(calendar: Calendar<'a>, register: &[u8; REGISTER_LENGTH]) -> Option<Running<'a>>
     ensures { Stands calendar.entry.bytes.now register.now result }
 {
     if !keeps_layout(register) {
-        return Err(Cause::RegisterForm);
+        return None;
     }
     let day = word(register, DAY);
     if DAYS <= day {
-        return Err(Cause::RegisterForm);
+        return None;
     }
     if !calendar::has_session(calendar.bytes, day) {
-        return Err(Cause::RegisterForm);
+        return None;
     }
     let Ok(live) = LiveMonths::try_from(calendar::first_live(calendar, day)) else {
-        return Err(Cause::RegisterForm);
+        return None;
     };
     let rows = layout::rows(register, usize::from(word(register, COUNT)));
-    let Some(spans) = scan::ladders(rows, day, live) else {
-        return Err(Cause::RegisterForm);
-    };
+    let spans = scan::ladders(rows, day, live)?;
     let running = Running {
         calendar,
         live,
         spans,
     };
     if register[WAITING] == 0 {
-        return Ok(running);
+        return Some(running);
     }
     if !waiting_stands(running, register) {
-        return Err(Cause::RegisterForm);
+        return None;
     }
-    Ok(running)
+    Some(running)
 }
 
 // A register that a call can be made on, under a calendar that passed: empty, or one that runs and is well formed.
@@ -191,7 +172,10 @@ pub fn open<'a>(calendar: &'a [u8], register: &[u8]) -> Result<Opened<'a>, Cause
         return Err(Cause::RegisterLength);
     };
     if register[STATUS] != 0 {
-        return Ok(Opened::Running(standing(calendar, register)?));
+        let Some(running) = standing(calendar, register) else {
+            return Err(Cause::RegisterForm);
+        };
+        return Ok(Opened::Running(running));
     }
     if layout::is_zero(register) {
         Ok(Opened::Empty(calendar))

@@ -49,7 +49,7 @@ fn list(register: &mut [u8; REGISTER_LENGTH], old: &[[u8; ROW_LENGTH]], plans: &
     ensures register_after { register.new ≡ quiet_bytes plans.now.day (ladders_from (plan_of plans.now) 0 6 (map row_of old.now)) }
 {
     let end = ladders::write_ladders(register, old, plans);
-    // Kept: the cast, since `try_from` would need an answer for more rows than there is room for.
+    // Kept: the casts of this file. The check proves that they lose nothing; try_from(..).unwrap() would need the same proof and says it in more words.
     let count = ((end - ROWS) / ROW_LENGTH) as u16;
     write_head(register, plans.day, count);
     count

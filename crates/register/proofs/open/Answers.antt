@@ -15,14 +15,13 @@ pub returns-in_default : goal.returns-in_default
 returns-in_default c = refused-length _ _ (passes-checked _ c.args.register.now c.in_ok-calendar.ensures.answer) c.in_default.ensures.1
 
 pub returns-then-register-ne0 : goal.returns-then-register-ne0
-returns-then-register-ne0 c = rw c.in_ok-calendar.ensures.bytes at (rw c.in-Ok.ensures.1.same at c.in_ok-standing.ensures)
+returns-then-register-ne0 c = rw c.in_ok-calendar.ensures.bytes at (rw c.in-Ok.ensures.1.same at c.in-Some.ensures)
 
-pub returns-in_err-standing : goal.returns-in_err-standing
-returns-in_err-standing c =
+pub returns-in_default-standing : goal.returns-in_default-standing
+returns-in_default-standing c =
     let whole = c.in-Ok.ensures.1 in
-    let p = err_from_is_err_and c.from_residual-in_err-standing.result c.from_residual-in_err-standing.ensures.1 in
-    let e = rw (c.in_ok-calendar.ensures.bytes, whole.same) at c.in_err-standing.ensures in
-    rw (p.1, p.2, e.1) (refused_run _ _ (passes-checked _ c.args.register.now c.in_ok-calendar.ensures.answer) whole.long (rw whole.same at c.if-register-ne0.true) e.0)
+    let e = rw (c.in_ok-calendar.ensures.bytes, whole.same) at c.in_default-standing.ensures in
+    refused_run _ _ (passes-checked _ c.args.register.now c.in_ok-calendar.ensures.answer) whole.long (rw whole.same at c.if-register-ne0.true) e
 
 pub returns-then-is_zero : goal.returns-then-is_zero
 returns-then-is_zero c =

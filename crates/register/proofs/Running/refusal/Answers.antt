@@ -4,7 +4,8 @@ use Rattle.std.proofs.Common.{◌≡◌, sym, ◌∙◌, ◌==◌, ◌≤◌, []
 use Rattle.std.proofs.lemmas.Iterator.{YieldsList-from_slice}
 use Rattle.std.proofs.lemmas.Iterator.Search.{position_from_yields_List}
 use Rattle.std.proofs.lemmas.Result.{err_from_is_err_and}
-use Rattle.base.specs.Lists.{elem}
+use Rattle.base.specs.Lists.{elem, within}
+use Rattle.base.proofs.Tests.{order_le}
 use Rattle.calendar.specs.Live.{live_months}
 use Rattle.grid.specs.Grid.{grid_of}
 use Rattle.calendar.specs.Live.{tier_of}
@@ -13,7 +14,7 @@ use Rattle.layout.specs.Spans.{span_in}
 use Rattle.scan.proofs.Steps.{six_months}
 use Rattle.register.proofs.Waiting.{Places, places}
 use Rattle.register.proofs.Refusals.{late, not_live, expired, off-grid, waiting, inside, outside}
-use Rattle.register.proofs.Running.refusal.Goals.{In-Some, After-on_grid, else-from-price-via-then-from-price+else-price-from, else-from-price-via-else-from-price}
+use Rattle.register.proofs.Running.refusal.Goals.{In-Some, After-on_grid, After-contains}
 use Rattle.register.proofs.Running.refusal.Goals as goal
 
 early : (c : In-Some) → c.args.next ≤ last_first_month
@@ -39,6 +40,16 @@ span c =
 -- the grid is the month's at the next session
 grid : (c : After-on_grid) → get_or c.months-months.result c.in-Some.i 0 ≡ c.args.month → c.on_grid.result ≡ elem c.args.price (grid_of (tier_of c.args.next c.args.month))
 grid c e = c.on_grid.ensures ∙ rw (c.tier.ensures, e, c.in_ok-next.ensures)
+
+-- whether the price lies within it
+held : (c : After-contains) →
+    let span = get_or c.args.self.spans c.in-Some.i [] in
+    c.contains.result ≡ within (get_or span 0 0) (get_or span 1 0) c.args.price
+unfolding within
+held c =
+    let span = get_or c.args.self.spans c.in-Some.i [] in
+    c.contains.ensures.value
+    ∙ rw (c.new.ensures.start, c.new.ensures.end, c.new.ensures.exhausted, c.from.ensures, c.from-2.ensures, order_le (get_or span 0 0) c.args.price, order_le c.args.price (get_or span 1 0))
 
 pub returns-in_err-next : goal.returns-in_err-next
 returns-in_err-next c =
@@ -71,20 +82,16 @@ returns-then-waits c =
     sym (waiting _ _ _ _ _ _ (early w) (live w) (rw ((at w).2, c.in_ok-next.ensures) at c.if-live-next.false)
     (sym (grid (goal.at.returns-then-waits c).After-on_grid (at w).2) ∙ c.if-not-on_grid.false) c.if-waits.true)
 
-pub returns-then-price-from : goal.returns-then-price-from
-returns-then-price-from c =
-    let w = (goal.at.returns-then-price-from c).In-Some in
+pub returns-then-contains : goal.returns-then-contains
+returns-then-contains c =
+    let g = goal.at.returns-then-contains c in
+    let w = g.In-Some in
     sym (inside _ _ _ _ _ _ (early w) (live w) (rw ((at w).2, c.in_ok-next.ensures) at c.if-live-next.false)
-    (sym (grid (goal.at.returns-then-price-from c).After-on_grid (at w).2) ∙ c.if-not-on_grid.false)
-    (rw (span w) (omega (arith, c.from.ensures, c.if-from-price.true)))
-    (rw (span w) (omega (arith, c.from-then-from-price.ensures, c.if-price-from.true))))
+    (sym (grid g.After-on_grid (at w).2) ∙ c.if-not-on_grid.false) (rw (span w) (sym (held g.After-contains) ∙ c.if-contains.true)))
 
 pub returns : goal.returns
 returns c =
-    let w = (goal.at.returns c).In-Some in
+    let g = goal.at.returns c in
+    let w = g.In-Some in
     sym (outside _ _ _ _ _ _ (early w) (live w) (rw ((at w).2, c.in_ok-next.ensures) at c.if-live-next.false)
-    (sym (grid (goal.at.returns c).After-on_grid (at w).2) ∙ c.if-not-on_grid.false) c.if-waits.false
-    (rw (span w) (λ l. elim c.else-from-price.branch [
-      | else-from-price-via-then-from-price+else-price-from w ↦ omega (arith, w.from-then-from-price.ensures, w.if-price-from.false)
-      | else-from-price-via-else-from-price w ↦ absurd (omega (arith, c.from.ensures, w.if-from-price.false))
-    ])))
+    (sym (grid g.After-on_grid (at w).2) ∙ c.if-not-on_grid.false) c.if-waits.false (rw (span w) (sym (held g.After-contains) ∙ c.if-contains.false)))
