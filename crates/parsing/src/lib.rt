@@ -83,13 +83,12 @@ fn is_right(field: &[u8; SERIES_FIELD]) -> bool
 }
 
 // The first wrong place of a field behind the day's. A usual file has none, which the table shows sooner.
-fn series_wrong(rest: &[u8], size: usize) -> Option<usize>
-    requires { size ≤ 15 }
-    ensures { result ≡ found_in (wrong false rest.now) 0 size }
+fn series_wrong(field: &[u8]) -> Option<usize>
+    ensures { result ≡ found_in (wrong false field.now) 0 15 }
 {
-    match rest.first_chunk() {
-        Some(field) if is_right(field) => None,
-        _ => first_wrong(rest, false, size),
+    match field.first_chunk() {
+        Some(whole) if is_right(whole) => None,
+        _ => first_wrong(field, false, SERIES_FIELD),
     }
 }
 
@@ -125,27 +124,21 @@ pub fn check(file: &[u8]) -> Result<Filed, Cause>
     if DAYS <= day {
         return Err(Cause::FileForm(CONTENT as u32));
     }
-    let mut at = DAY_FIELD;
     let mut least: u32 = 0;
-    let mut series: u32 = 0;
-    // Kept: how far the next field stands its tag tells, so no iterator steps over them.
-    while at < file.len() {
-        let rest = &file[at..];
-        let size = CONTENT + content_size(rest[0]);
-        if let Some(place) = series_wrong(rest, size) {
+    for (i, field) in file[DAY_FIELD..].chunks(SERIES_FIELD).enumerate() {
+        let at = DAY_FIELD + SERIES_FIELD * i;
+        if let Some(place) = series_wrong(field) {
             return Err(Cause::FileForm((at + place) as u32));
         }
-        let key = key_of(&rest[CONTENT..CONTENT + names::LENGTH]);
+        let key = key_of(&field[CONTENT..CONTENT + names::LENGTH]);
         if !is_taken(least, key) {
             return Err(Cause::FileForm((at + CONTENT) as u32));
         }
         least = key + 1;
-        at += size;
-        series += 1;
     }
     Ok(Filed {
         day: u32::from(day),
-        series,
+        series: ((file.len() - DAY_FIELD) / SERIES_FIELD) as u32,
     })
 }
 
