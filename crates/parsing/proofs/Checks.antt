@@ -3,10 +3,10 @@
 use mathlib.Core.Path.{◌≡◌, refl, sym, ap, ◌∙◌}
 use mathlib.Core.Bool.{Bool, true, false, cond, not, ◌&&◌, ◌||◌}
 use mathlib.Core.List.{List, [], ◌∷◌, ◌++◌, append-nil}
-use Prim.Native.Nat.{ℕ, suc, min, ◌+◌, ◌-◌, ◌*◌, ◌%◌, ◌≤◌, ◌<◌}
+use Prim.Native.Nat.{ℕ, zero, suc, min, ◌+◌, ◌-◌, ◌*◌, ◌%◌, ◌≤◌, ◌<◌}
 use native.Mathlib.Nat.{add-zero, zero-add}
 use native.Mathlib.Omega.{arith}
-use lib.Dec.{T, ltb, leb}
+use lib.Dec.{T, eqb, ltb, leb}
 use lib.ListN.{length, get_or, take, drop, length-append, length-take, length-drop, drop_of_length-le}
 use Rattle.std.proofs.lemmas.List.{drop-take, nil_from_length}
 use lib.Seq.{get_or-take, drop-drop, drop_at, take_all, take_at, take-take, length-take-le}
@@ -31,6 +31,9 @@ use Rattle.fields.specs.declared.Contents.{Contents}
 use Rattle.fields.proofs.Shape.{Shaped, front-room, front_shaped, series-tag, named}
 use Rattle.fields.proofs.Steps.{step-wrong, step_unfit, step-taken, none-good, file-wrong, file_late, file-series, day-room}
 use Rattle.parsing.specs.Keys.{key_of}
+use Rattle.parsing.specs.Sorts.{is_day, tag_of, length_of}
+use Rattle.parsing.specs.declared.Field.{Field as Sort}
+use Rattle.parsing.specs.declared.Field.TheVariants.{Day, Series}
 use Rattle.parsing.proofs.KeyLaws.{key_bound, key-price, below_key}
 
 -- ---- a place of the field at the front of some bytes
@@ -42,6 +45,29 @@ module _ (first : Bool) (rest : List ℕ) (j : ℕ) where
   pub wrong-at : j < length rest → wrong first rest j ≡ not (byte_stands first (get_or rest 0 0) j (get_or rest j 0))
   unfolding wrong
   wrong-at h = rw (lt-ltb j (length rest) h)
+
+-- ---- the two sorts of fields
+pub tag_byte : (field : Sort) (b : ℕ) → eqb b (tag_of field) ≡ tag_stands (is_day field) b
+unfolding tag_stands
+tag_byte Day b = refl
+tag_byte Series b = refl
+
+pub length_byte : (field : Sort) (b : ℕ) → eqb b (length_of field) ≡ eqb b (content_size (tag_of field))
+unfolding content_size
+length_byte Day b = refl
+length_byte Series b = refl
+
+-- behind the first place a tag decides, at the first none does
+pub same_stands : (first : Bool) (t u j b : ℕ) → (0 < j → t ≡ u) → byte_stands first t j b ≡ byte_stands first u j b
+unfolding byte_stands
+same_stands first t u zero b e = refl
+same_stands first t u (suc j) b e = ap (λ (t : ℕ). byte_stands first t (suc j) b) (e (omega arith))
+
+pub tag_told : (field : Sort) (rest : List ℕ) (place : ℕ) → (0 < place → get_or rest 0 0 ≡ tag_of field)
+    → byte_stands (is_day field) (tag_of field) place (get_or rest place 0) ≡ true → get_or rest 0 0 ≡ tag_of field
+unfolding byte_stands
+tag_told field rest zero told e = eqb-true (get_or rest 0 0) (tag_of field) (tag_byte field (get_or rest 0 0) ∙ e)
+tag_told field rest (suc place) told e = told (omega arith)
 
 -- ---- a series' field by a table: the least and the greatest byte that can stand at each place
 abbrev least : List ℕ

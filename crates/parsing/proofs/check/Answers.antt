@@ -1,7 +1,7 @@
 -- `parsing::check` meets its contract. The loop keeps an equation: what is told of the rest, behind so many series, is what is told of
 -- the whole file.
 -- Assumes nothing.
-use Rattle.std.proofs.Common.{◌≡◌, ◌∙◌, ◌+◌, ◌*◌, ◌-◌, ◌/◌, ◌≤◌, ◌<◌, ℕ, List, ◌++◌, None, min, true, false, sym, ap, length, take, drop, arith}
+use Rattle.std.proofs.Common.{◌≡◌, ◌∙◌, ◌+◌, ◌*◌, ◌-◌, ◌/◌, ◌≤◌, ◌<◌, ℕ, List, ◌++◌, None, min, true, false, sym, length, take, drop, arith}
 use Rattle.std.specs.Slice.Iter.{chunks_rest}
 use lib.ListN.{length-drop}
 use lib.Seq.{drop-drop}
@@ -116,10 +116,11 @@ loop-i-preserved c =
     let count : c.next.new.self.count ≡ c.in-Some-2.i + 1 = omega (arith, steps.1, steps.2) in
     let next : 5 + 15 * (c.in-Some-2.i + 1) ≡ 5 + 15 * c.in-Some-2.i + 15 = omega arith in
     let room : 15 ≤ length (rest s) = omega (arith, length-drop (next_at s) c.args.file.now, field_inside (walked s) (inside s) fine) in
-    rw (count, next)
-    (steps.0.0 ∙ c.loop-i.invariant.0,
-    left_is _ _ _ (parts s) (size s) room ∙ drop-drop 15 (next_at s) c.args.file.now,
-    walk-on (walked s) (inside s) fine key (sym c.is_taken.ensures ∙ c.if-not-is_taken.false))
+    rw (count, next) (
+      steps.0.0 ∙ c.loop-i.invariant.0,
+      left_is _ _ _ (parts s) (size s) room ∙ drop-drop 15 (next_at s) c.args.file.now,
+      walk-on (walked s) (inside s) fine key (sym c.is_taken.ensures ∙ c.if-not-is_taken.false),
+    )
 
 -- ---- no field is left
 pub overflow_sub-result : goal.overflow_sub-result
