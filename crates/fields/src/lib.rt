@@ -7,10 +7,10 @@ ghost use Rattle.fields.specs.Reading.{contents_of};
 use base::Cause;
 
 // The tags: a day, a series.
-// Kept: no enum, since any byte may stand in a tag's place, and one that is neither is told as a place is, not as a tag.
+// Kept: numbers, since a file's bytes hold them; `parsing`, which asks what a field holds, has the enum.
 pub const DAY_TAG: u8 = 1;
 
-// Kept: no enum, as the day's.
+// Kept: a number, as the day's.
 pub const SERIES_TAG: u8 = 2;
 
 // Where a field's content begins, behind tag and length.

@@ -1,5 +1,5 @@
 // The questions of `lookup` for C: the archive with which the host tests compare every answer.
-// Kept: the exports are alike by nature. C links each by its name, and each makes a number of none.
+// Kept: the exports are alike by nature. C links each by its name, and where a question has no answer, C gets 65,535 or zeros.
 #![tactic(auto)]
 
 ghost use Rattle.std.specs.Prelude.{◌≡◌, ◌&&◌, eqb, leb, ltb, get_or};

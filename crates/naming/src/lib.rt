@@ -45,8 +45,8 @@ pub fn rows_before(rows: &[[u8; ROW_LENGTH]], month: u16) -> usize
     first.unwrap_or(rows.len())
 }
 
-// Kept: the casts of this file. They narrow lengths of fields, 2 and 12; `try_from` would need an answer for what never happens.
 // Puts the field of a day at the front of a part.
+// Kept: the casts of this file. The check proves that they lose nothing; `try_from(..).unwrap()` would need the same proof and says it in more words.
 fn put_day(part: &mut [u8], day: u16)
     requires { 5 ≤ length part.old }
     ensures { part.new ≡ fields_bytes (day_field day ∷ []) ++ drop 5 part.old }

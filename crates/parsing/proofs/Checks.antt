@@ -2,13 +2,14 @@
 -- Assumes nothing.
 use mathlib.Core.Path.{◌≡◌, refl, sym, ap, ◌∙◌}
 use mathlib.Core.Bool.{Bool, true, false, cond, not, ◌&&◌, ◌||◌}
-use mathlib.Core.List.{List, [], ◌∷◌}
-use Prim.Native.Nat.{ℕ, suc, ◌+◌, ◌-◌, ◌*◌, ◌%◌, ◌≤◌, ◌<◌}
+use mathlib.Core.List.{List, [], ◌∷◌, ◌++◌, append-nil}
+use Prim.Native.Nat.{ℕ, zero, suc, min, ◌+◌, ◌-◌, ◌*◌, ◌%◌, ◌≤◌, ◌<◌}
 use native.Mathlib.Nat.{add-zero, zero-add}
 use native.Mathlib.Omega.{arith}
-use lib.Dec.{T, ltb, leb}
-use lib.ListN.{length, get_or, take, drop, length-drop, drop_of_length-le}
-use lib.Seq.{get_or-take, drop-drop, take-take, length-take-le}
+use lib.Dec.{T, eqb, ltb, leb}
+use lib.ListN.{length, get_or, take, drop, length-append, length-take, length-drop, drop_of_length-le}
+use Rattle.std.proofs.lemmas.List.{drop-take, nil_from_length}
+use lib.Seq.{get_or-take, drop-drop, drop_at, take_all, take_at, take-take, length-take-le}
 use borrow.Author.Count.{below_more}
 use borrow.Author.Tests.{lt-ltb, le-ltb, le-leb, ltb-true, leb-true, eqb-true, not-true, not-false}
 use Rattle.std.specs.Prelude.{None}
@@ -17,9 +18,9 @@ use Rattle.base.specs.Lists.{elem, within}
 use Rattle.base.specs.Causes.{cause}
 use Rattle.base.specs.Words.{at16}
 use Rattle.base.specs.declared.Tier.TheVariants.{N}
-use Rattle.base.proofs.Tests.{by_bool, clash, iff, and_r, or_none}
+use Rattle.base.proofs.Tests.{by_bool, by_le, clash, iff, and_r, or_none}
 use Rattle.base.proofs.Table.{every, at as entry}
-use Rattle.base.proofs.SearchLaws.{first_end, first_skip, found-none, none-at, none_in, some_split, some_first, some-empty}
+use Rattle.base.proofs.SearchLaws.{first_end, first_skip, first_hit, first-high, first-before, first_found, found-none, none-at, none_in, some_split, some_first, some-empty}
 use Rattle.dates.specs.Months.{day_count}
 use Rattle.grid.specs.Grid.{grid_of}
 use Rattle.names.specs.Names.{name_length, can_stand}
@@ -30,6 +31,9 @@ use Rattle.fields.specs.declared.Contents.{Contents}
 use Rattle.fields.proofs.Shape.{Shaped, front-room, front_shaped, series-tag, named}
 use Rattle.fields.proofs.Steps.{step-wrong, step_unfit, step-taken, none-good, file-wrong, file_late, file-series, day-room}
 use Rattle.parsing.specs.Keys.{key_of}
+use Rattle.parsing.specs.Sorts.{is_day, tag_of, length_of}
+use Rattle.parsing.specs.declared.Field.{Field as Sort}
+use Rattle.parsing.specs.declared.Field.TheVariants.{Day, Series}
 use Rattle.parsing.proofs.KeyLaws.{key_bound, key-price, below_key}
 
 -- ---- a place of the field at the front of some bytes
@@ -41,6 +45,29 @@ module _ (first : Bool) (rest : List ℕ) (j : ℕ) where
   pub wrong-at : j < length rest → wrong first rest j ≡ not (byte_stands first (get_or rest 0 0) j (get_or rest j 0))
   unfolding wrong
   wrong-at h = rw (lt-ltb j (length rest) h)
+
+-- ---- the two sorts of fields
+pub tag_byte : (field : Sort) (b : ℕ) → eqb b (tag_of field) ≡ tag_stands (is_day field) b
+unfolding tag_stands
+tag_byte Day b = refl
+tag_byte Series b = refl
+
+pub length_byte : (field : Sort) (b : ℕ) → eqb b (length_of field) ≡ eqb b (content_size (tag_of field))
+unfolding content_size
+length_byte Day b = refl
+length_byte Series b = refl
+
+-- behind the first place a tag decides, at the first none does
+pub same_stands : (first : Bool) (t u j b : ℕ) → (0 < j → t ≡ u) → byte_stands first t j b ≡ byte_stands first u j b
+unfolding byte_stands
+same_stands first t u zero b e = refl
+same_stands first t u (suc j) b e = ap (λ (t : ℕ). byte_stands first t (suc j) b) (e (omega arith))
+
+pub tag_told : (field : Sort) (rest : List ℕ) (place : ℕ) → (0 < place → get_or rest 0 0 ≡ tag_of field)
+    → byte_stands (is_day field) (tag_of field) place (get_or rest place 0) ≡ true → get_or rest 0 0 ≡ tag_of field
+unfolding byte_stands
+tag_told field rest zero told e = eqb-true (get_or rest 0 0) (tag_of field) (tag_byte field (get_or rest 0 0) ∙ e)
+tag_told field rest (suc place) told e = told (omega arith)
 
 -- ---- a series' field by a table: the least and the greatest byte that can stand at each place
 abbrev least : List ℕ
@@ -117,16 +144,76 @@ tested_all field right inside t =
     let tag : get_or field 0 0 ≡ 2 = eqb-true (get_or field 0 0) 2 (stands 0 (omega arith)) in
     clash (some_in w 0 15) s (none_in w 15 (λ j h. wrong-at false field j (room j h) ∙ rw (tag, stands j h) refl)))))
 
--- where no place of fifteen is wrong, none is of fewer
-pub right_none : (rest : List ℕ) (size : ℕ) → 15 ≤ length rest → size ≤ 15 → not (some_in (wrong false (take 15 rest)) 0 15) ≡ true
-    → found_in (wrong false rest) 0 size ≡ None
-right_none rest size room h e =
+-- where no place of the first fifteen bytes is wrong, none is of all
+pub right_none : (rest : List ℕ) → 15 ≤ length rest → not (some_in (wrong false (take 15 rest)) 0 15) ≡ true → found_in (wrong false rest) 0 15 ≡ None
+right_none rest room e =
     let p = wrong false rest in
     let long : length (take 15 rest) ≡ 15 = length-take-le 15 rest room in
     let none = not-true (some_in (wrong false (take 15 rest)) 0 15) e in
     let same : (j : ℕ) → j < 15 → p j ≡ false = λ j l.
     wrong-at false rest j (omega arith) ∙ rw (← get_or-take 15 rest 0 0 (omega arith), ← get_or-take 15 rest j 0 l) (sym (wrong-at false (take 15 rest) j (omega arith)) ∙ none-at (wrong false (take 15 rest)) 15 none j l) in
-    found-none p 0 size (omega (arith, first_skip p 0 size size (omega arith) (omega arith) (λ j l u. same j (omega arith)), first_end p size size (omega arith)))
+    found-none p 0 15 (omega (arith, first_skip p 0 15 15 (omega arith) (omega arith) (λ j l u. same j (omega arith)), first_end p 15 15 (omega arith)))
+
+-- ---- the front of some bytes, up to fifteen
+module _ (rest field left : List ℕ) (parts : rest ≡ field ++ left) (size : length field ≡ min 15 (length rest)) where
+  pub front_is : field ≡ take 15 rest
+  front_is =
+      by_le 15 (length rest)
+      (λ l. sym (ap (take 15) parts ∙ take_at field left 15 (omega (arith, size))))
+      (λ l. let none : left ≡ [] = nil_from_length left (omega (arith, ap length parts, length-append field left, size)) in
+      sym (take_all 15 rest (omega arith) ∙ parts ∙ rw none (append-nil field)))
+
+  pub left_is : 15 ≤ length rest → left ≡ drop 15 rest
+  left_is l = sym (ap (drop 15) parts ∙ drop_at field left 15 (omega (arith, size)))
+
+module _ (rest : List ℕ) where
+  front-long : length (take 15 rest) ≡ min 15 (length rest)
+  front-long = length-take 15 rest
+
+  front-wrong : (j : ℕ) → j < 15 → wrong false (take 15 rest) j ≡ wrong false rest j
+  front-wrong j h =
+      by_le (length rest) j
+      (λ l. wrong_end false (take 15 rest) j (omega (arith, front-long)) ∙ sym (wrong_end false rest j l))
+      (λ l. wrong-at false (take 15 rest) j (omega (arith, front-long))
+      ∙ rw (get_or-take 15 rest 0 0 (omega arith), get_or-take 15 rest j 0 h) (sym (wrong-at false rest j l)))
+
+  pub front_first : first_in (wrong false (take 15 rest)) 0 15 ≡ first_in (wrong false rest) 0 15
+  front_first =
+      let p = wrong false (take 15 rest) in
+      let q = wrong false rest in
+      let k = first_in q 0 15 in
+      let high = first-high q 0 15 (omega arith) in
+      first_skip p 0 k 15 (omega arith) high (λ j l u. front-wrong j (omega (arith, high, u)) ∙ first-before q 0 15 j l u)
+      ∙ by_le 15 k (λ l. first_end p k 15 l) (λ l. first_hit p k 15 l (front-wrong k l ∙ first_found q 0 15 l))
+
+  pub front_name : take name_length (drop 3 (take 15 rest)) ≡ take name_length (drop 3 rest)
+  front_name = rw (drop-take 3 12 rest, take-take name_length 12 (drop 3 rest) (omega arith))
+
+  -- the fifteen tell what the field's size does: a tag that is not a series' is wrong, whatever size it tells
+  module _ (some : 0 < length rest) where
+    series_tag : wrong false rest 0 ≡ false → get_or rest 0 0 ≡ 2
+    unfolding byte_stands tag_stands
+    series_tag e = eqb-true (get_or rest 0 0) 2 (not-false _ (sym (wrong-at false rest 0 some) ∙ e))
+
+    fifteen : wrong false rest 0 ≡ false → field_size (get_or rest 0 0) ≡ 15
+    unfolding field_size content_size
+    fifteen e = rw (series_tag e)
+
+    pub sized_first : first_in (wrong false rest) 0 (field_size (get_or rest 0 0)) ≡ first_in (wrong false rest) 0 15
+    unfolding field_size
+    sized_first =
+        let w = wrong false rest in
+        by_bool (w 0)
+        (λ t. first_hit w 0 (field_size (get_or rest 0 0)) (omega arith) t ∙ sym (first_hit w 0 15 (omega arith) t))
+        (λ f. ap (λ (n : ℕ). first_in w 0 n) (fifteen f))
+
+    pub size_first : some_in (wrong false rest) 0 (field_size (get_or rest 0 0)) ≡ some_in (wrong false rest) 0 15
+    unfolding field_size
+    size_first =
+        let w = wrong false rest in
+        by_bool (w 0)
+        (λ t. rw (first_hit w 0 (field_size (get_or rest 0 0)) (omega arith) t, first_hit w 0 15 (omega arith) t) (lt-ltb 0 (field_size (get_or rest 0 0)) (omega arith)))
+        (λ f. ap (λ (n : ℕ). some_in w 0 n) (fifteen f))
 
 -- ---- what is told: a fault, or the day and so many series before those that are left
 abbrev pub fault_at : ℕ → Contents
@@ -180,6 +267,7 @@ pub record Walked (file : List ℕ) (day at least series : ℕ) : Type 0 where
   pub least-most : least ≤ 24000000
   pub series-most : series ≤ least
   pub at_is : at ≡ 5 + 15 * series
+  pub at_inside : at ≤ length file
   pub told : checked_of (file_read file) ≡ tell day series (series_from (length file - series) at last (drop at file))
 
 -- every name is above none
@@ -195,11 +283,6 @@ above-name last f name g =
     (λ h. let l = ltb-true (key_of last) (key_of name) h in le-leb (key_of last + 1) (key_of name) (omega arith))
     (λ h. let l = leb-true (key_of last + 1) (key_of name) h in lt-ltb (key_of last) (key_of name) (omega arith))
 
--- the field at `at`, and how long its content is by its tag
-pub record Found (file : List ℕ) (at content : ℕ) : Type 0 where
-  pub inside : at < length file
-  pub size : content ≡ content_size (get_or (drop at file) 0 0)
-
 pub walk_begins : (file : List ℕ) (day : ℕ) → 5 ≤ first_in (wrong true file) 0 5 → day ≡ at16 file 3 → day < day_count → Walked file day 5 0 0
 walk_begins file day whole e h =
     let all : length file - 0 ≡ length file = omega arith in
@@ -209,6 +292,7 @@ walk_begins file day whole e h =
       least-most = omega arith;
       series-most = omega arith;
       at_is = refl;
+      at_inside = day_inside file whole;
       told = rw (all, e) (day-told file whole (rw e at h));
     }
 
@@ -217,32 +301,28 @@ module _ {file : List ℕ} {day at least series : ℕ} (walked : Walked file day
   unfolding tell
   walk_ends h = walked.told ∙ rw (drop_of_length-le file h, none-good (length file - series) at walked.last, add-zero series)
 
-  module _ {content : ℕ} (found : Found file at content) where
+  module _ (inside : at < length file) where
     abbrev rest : List ℕ
     rest = drop at file
 
     some : 0 < length rest
-    some = simp length-drop (omega (arith, found.inside))
+    some = simp length-drop (omega arith)
 
     told-next : checked_of (file_read file) ≡ tell day series (series_from (suc (length file - (series + 1))) at walked.last rest)
-    told-next = let fuel : suc (length file - (series + 1)) ≡ length file - series = omega (arith, walked.at_is, found.inside) in rw fuel walked.told
+    told-next = let fuel : suc (length file - (series + 1)) ≡ length file - series = omega (arith, walked.at_is) in rw fuel walked.told
 
-    size_is : field_size (get_or rest 0 0) ≡ 3 + content
-    unfolding field_size
-    size_is = rw found.size
-
-    pub walk-wrong : (place : ℕ) → first_in (wrong false rest) 0 (3 + content) ≡ place → place < 3 + content → checked_of (file_read file) ≡ fault_at (at + place)
+    pub walk-wrong : (place : ℕ) → first_in (wrong false rest) 0 15 ≡ place → place < 15 → checked_of (file_read file) ≡ fault_at (at + place)
     unfolding tell
     walk-wrong place first h =
-        let e : some_in (wrong false rest) 0 (field_size (get_or rest 0 0)) ≡ true = rw (size_is, first) (lt-ltb place (3 + content) h) in
-        told-next ∙ rw (step-wrong (length file - (series + 1)) at walked.last rest some e, size_is, first)
+        let e : some_in (wrong false rest) 0 (field_size (get_or rest 0 0)) ≡ true = size_first rest some ∙ rw first (lt-ltb place 15 h) in
+        told-next ∙ rw (step-wrong (length file - (series + 1)) at walked.last rest some e, sized_first rest some, first)
 
-    module _ (whole : 3 + content ≤ first_in (wrong false rest) 0 (3 + content)) where
+    module _ (whole : 15 ≤ first_in (wrong false rest) 0 15) where
       abbrev name_here : List ℕ
       name_here = take name_length (drop 3 rest)
 
       none : some_in (wrong false rest) 0 (field_size (get_or rest 0 0)) ≡ false
-      none = rw size_is (le-ltb (first_in (wrong false rest) 0 (3 + content)) (3 + content) whole)
+      none = size_first rest some ∙ le-ltb (first_in (wrong false rest) 0 15) 15 whole
 
       shaped : Shaped false (front_field rest)
       shaped = front_shaped false rest none
@@ -251,12 +331,12 @@ module _ {file : List ℕ} {day at least series : ℕ} (walked : Walked file day
       unfolding front_field
       two = series-tag (front_field rest) shaped
 
-      content_is : content ≡ 12
-      unfolding content_size
-      content_is = found.size ∙ rw two
+      size_is : field_size (get_or rest 0 0) ≡ 15
+      unfolding field_size content_size
+      size_is = rw two
 
       pub field_inside : at + 15 ≤ length file
-      field_inside = omega (arith, front-room false rest none, size_is, content_is, length-drop at file)
+      field_inside = omega (arith, front-room false rest none, size_is, length-drop at file)
 
       name_is : name_in (front_field rest) ≡ name_here
       unfolding name_in front_field content_size
@@ -274,7 +354,7 @@ module _ {file : List ℕ} {day at least series : ℕ} (walked : Walked file day
         unfolding tell
         walk_unfit h = told-next ∙ rw (step_unfit (length file - (series + 1)) at walked.last rest some none (taken_is ∙ rw (← key-is) h))
 
-        pub walk-on : (elem (key % 10000) (grid_of N) && leb least key) ≡ true → Walked file day (at + (3 + content)) (key + 1) (series + 1)
+        pub walk-on : (elem (key % 10000) (grid_of N) && leb least key) ≡ true → Walked file day (at + 15) (key + 1) (series + 1)
         walk-on h =
             let l : least ≤ key = leb-true least key (and_r (elem (key % 10000) (grid_of N)) (leb least key) h) in
             let b : key < 24000000 = rw key-is (key_bound name_here name_formed) in
@@ -283,8 +363,9 @@ module _ {file : List ℕ} {day at least series : ℕ} (walked : Walked file day
               above = rw key-is (above-name name_here name_formed);
               least-most = omega arith;
               series-most = omega (arith, walked.series-most);
-              at_is = omega (arith, walked.at_is, content_is);
+              at_is = omega (arith, walked.at_is);
+              at_inside = field_inside;
               told =
                   told-next ∙ ap (tell day series) (step-taken (length file - (series + 1)) at walked.last rest some none (taken_is ∙ rw (← key-is) h))
-                  ∙ tell-behind day series _ _ ∙ rw (name_is, size_is, drop-drop (3 + content) at file);
+                  ∙ tell-behind day series _ _ ∙ rw (name_is, size_is, drop-drop 15 at file);
             }

@@ -1,14 +1,15 @@
 // A file of series, read.
 #![tactic(auto)]
 
-ghost use Rattle.std.specs.Prelude.{◌≡◌, false, not, ◌&&◌, ◌++◌, ◌*◌, ◌%◌, ◌≤◌, ◌<◌, leb, length, drop};
+ghost use Rattle.std.specs.Prelude.{◌≡◌, false, not, ◌&&◌, ◌++◌, ◌+◌, ◌*◌, ◌%◌, ◌≤◌, ◌<◌, leb, length, drop};
 ghost use Rattle.base.specs.Search.{first_in, found_in, some_in};
 ghost use Rattle.base.specs.Lists.{elem};
 ghost use Rattle.base.specs.declared.Tier.TheVariants.{N};
 ghost use Rattle.grid.specs.Grid.{grid_of};
 ghost use Rattle.names.specs.Names.{name_length, misplaced};
-ghost use Rattle.fields.specs.Reading.{content_size, content_stands, byte_stands, wrong, file_read, is_faulty, series_in, series_bytes, checked_of, contents_of, read_at, read_after};
+ghost use Rattle.fields.specs.Reading.{content_stands, byte_stands, wrong, file_read, is_faulty, series_in, series_bytes, checked_of, contents_of, read_at, read_after};
 ghost use Rattle.parsing.specs.Keys.{key_of};
+ghost use Rattle.parsing.specs.Sorts.{is_day, tag_of, length_of};
 
 use base::{Cause, Tier};
 use dates::DAYS;
@@ -16,50 +17,64 @@ use fields::{
     CONTENT, DAY_FIELD, DAY_LENGTH, DAY_TAG, Filed, SERIES_FIELD, SERIES_LENGTH, SERIES_TAG,
 };
 
-// How many bytes of content a tag has; one that is not known has none.
-fn content_size(tag: u8) -> usize
-    ensures { (result ≡ content_size tag) × (result ≤ 12) }
-{
-    match tag {
-        DAY_TAG => DAY_LENGTH,
-        SERIES_TAG => SERIES_LENGTH,
-        _ => 0,
-    }
+// What a field holds: the first the day, the others a series each.
+#[derive(Clone, Copy)]
+enum Field {
+    Day,
+    Series,
 }
 
-// Whether a byte can stand at a place of a tag's content.
-fn content_stands(tag: u8, place: usize, byte: u8) -> bool
-    ensures { result ≡ content_stands tag place byte }
-{
-    if tag == DAY_TAG {
-        true
-    } else if place < names::LENGTH {
-        names::can_stand(place, byte)
-    } else {
-        (1..=5).contains(&byte)
+impl Field {
+    fn tag(self) -> u8
+        ensures { result ≡ tag_of self }
+    {
+        match self {
+            Field::Day => DAY_TAG,
+            Field::Series => SERIES_TAG,
+        }
     }
-}
 
-// Whether a byte can stand at a place of a field with this tag; the first field is the day's.
-// Kept: an enum of a field's parts would be made from the place by these same numbers, and then be matched again.
-fn can_stand(first: bool, tag: u8, place: usize, byte: u8) -> bool
-    ensures { result ≡ byte_stands first tag place byte }
-{
-    match place {
-        0 if first => byte == DAY_TAG,
-        0 => byte == SERIES_TAG,
-        1 => usize::from(byte) == content_size(tag),
-        2 => byte == 0,
-        _ => content_stands(tag, place - CONTENT, byte),
+    // How many bytes of content it has.
+    fn length(self) -> usize
+        ensures { result ≡ length_of self }
+    {
+        match self {
+            Field::Day => DAY_LENGTH,
+            Field::Series => SERIES_LENGTH,
+        }
+    }
+
+    // Whether a byte can stand at a place of its content.
+    fn content_stands(self, place: usize, byte: u8) -> bool
+        ensures { result ≡ content_stands (tag_of self) place byte }
+    {
+        match self {
+            Field::Day => true,
+            Field::Series if place < names::LENGTH => names::can_stand(place, byte),
+            Field::Series => (1..=5).contains(&byte),
+        }
+    }
+
+    // Whether a byte can stand at a place of it.
+    // Kept: an enum of a field's parts would be made from the place by these same numbers, and then be matched again.
+    fn can_stand(self, place: usize, byte: u8) -> bool
+        ensures { result ≡ byte_stands (is_day self) (tag_of self) place byte }
+    {
+        match place {
+            0 => byte == self.tag(),
+            1 => usize::from(byte) == self.length(),
+            2 => byte == 0,
+            _ => self.content_stands(place - CONTENT, byte),
+        }
     }
 }
 
 // The first place of the field at the front of some bytes where these end or one stands that cannot.
-fn first_wrong(rest: &[u8], first: bool, size: usize) -> Option<usize>
-    ensures { result ≡ found_in (wrong first rest.now) 0 size }
+fn first_wrong(rest: &[u8], field: Field) -> Option<usize>
+    ensures { result ≡ found_in (wrong (is_day field) rest.now) 0 (3 + length_of field) }
 {
-    for place in 0..size {
-        if rest.len() <= place || !can_stand(first, rest[0], place, rest[place]) {
+    for place in 0..CONTENT + field.length() {
+        if rest.len() <= place || !field.can_stand(place, rest[place]) {
             return Some(place);
         }
     }
@@ -83,13 +98,12 @@ fn is_right(field: &[u8; SERIES_FIELD]) -> bool
 }
 
 // The first wrong place of a field behind the day's. A usual file has none, which the table shows sooner.
-fn series_wrong(rest: &[u8], size: usize) -> Option<usize>
-    requires { size ≤ 15 }
-    ensures { result ≡ found_in (wrong false rest.now) 0 size }
+fn series_wrong(field: &[u8]) -> Option<usize>
+    ensures { result ≡ found_in (wrong false field.now) 0 15 }
 {
-    match rest.first_chunk() {
-        Some(field) if is_right(field) => None,
-        _ => first_wrong(rest, false, size),
+    match field.first_chunk() {
+        Some(whole) if is_right(whole) => None,
+        _ => first_wrong(field, Field::Series),
     }
 }
 
@@ -99,8 +113,8 @@ fn key_of(name: &[u8]) -> u32
     ensures { (result ≡ key_of name.now) × (result < 24000000) }
 {
     let mut key = u32::from(name[4] - b'A');
-    for place in 5..names::LENGTH {
-        key = 10 * key + u32::from(name[place] - b'0');
+    for digit in &name[5..] {
+        key = 10 * key + u32::from(*digit - b'0');
     }
     key
 }
@@ -114,38 +128,32 @@ fn is_taken(least: u32, key: u32) -> bool
 
 // The check of a file of any bytes: its day and how many series it has, or 31 and the place. Keys ascend, so that there are
 // fewer series than keys, and each place has room in 32 bits however long the bytes are.
-// Kept: the casts of this file, of places and of the number of series: `try_from` would need an answer for more than 32 bits hold.
+// Kept: the casts of this file. The check proves that they lose nothing; `try_from(..).unwrap()` would need the same proof and says it in more words.
 pub fn check(file: &[u8]) -> Result<Filed, Cause>
     ensures { contents_of result ≡ checked_of (file_read file.now) }
 {
-    if let Some(place) = first_wrong(file, true, DAY_FIELD) {
+    if let Some(place) = first_wrong(file, Field::Day) {
         return Err(Cause::FileForm(place as u32));
     }
     let day = base::word(file, CONTENT);
     if DAYS <= day {
         return Err(Cause::FileForm(CONTENT as u32));
     }
-    let mut at = DAY_FIELD;
     let mut least: u32 = 0;
-    let mut series: u32 = 0;
-    // Kept: how far the next field stands its tag tells, so no iterator steps over them.
-    while at < file.len() {
-        let rest = &file[at..];
-        let size = CONTENT + content_size(rest[0]);
-        if let Some(place) = series_wrong(rest, size) {
+    for (i, field) in file[DAY_FIELD..].chunks(SERIES_FIELD).enumerate() {
+        let at = DAY_FIELD + SERIES_FIELD * i;
+        if let Some(place) = series_wrong(field) {
             return Err(Cause::FileForm((at + place) as u32));
         }
-        let key = key_of(&rest[CONTENT..CONTENT + names::LENGTH]);
+        let key = key_of(&field[CONTENT..CONTENT + names::LENGTH]);
         if !is_taken(least, key) {
             return Err(Cause::FileForm((at + CONTENT) as u32));
         }
         least = key + 1;
-        at += size;
-        series += 1;
     }
     Ok(Filed {
         day: u32::from(day),
-        series,
+        series: ((file.len() - DAY_FIELD) / SERIES_FIELD) as u32,
     })
 }
 
