@@ -9,10 +9,14 @@ use std::{fmt, str};
 use text::Date;
 
 // What names begin with.
+// Kept: `names` has the same, private there; public it would be a part of that crate for the letter of this message alone.
 const PREFIX: [u8; 4] = *b"OW20";
 
 // Where a name has the digits of its price.
 const PRICE: usize = 7;
+
+// Where a series has its origin, behind its name.
+const ORIGIN: usize = CONTENT + LENGTH;
 
 // The bytes before the content of each field: tag and length.
 // Kept: the casts of this file; a constant cannot call `try_from`, and for a place it would need an answer for one that no usize holds.
@@ -46,6 +50,7 @@ fn spot_of(place: usize) -> Spot {
 }
 
 // Which part of which field it is.
+// Kept: the matches over places, here and below; an enum of the parts would be made by this one, and matched again for the texts.
 impl Display for Spot {
     fn fmt<W: fmt::Write>(&self, f: &mut fmt::Formatter<W>) -> fmt::Result {
         match self.field {
@@ -59,7 +64,7 @@ impl Display for Spot {
                 0 => write!(f, "series {number}, its tag"),
                 1 => write!(f, "series {number}, the low byte of its length"),
                 2 => write!(f, "series {number}, the high byte of its length"),
-                3..=13 => {
+                CONTENT..ORIGIN => {
                     let character = self.place - CONTENT + 1;
                     write!(f, "series {number}, character {character} of its name")
                 }
@@ -77,9 +82,9 @@ impl Display for Due {
     fn fmt<W: fmt::Write>(&self, f: &mut fmt::Formatter<W>) -> fmt::Result {
         let Spot { field, place } = self.0;
         match (field, place) {
-            (Field::Day, 0..=2) => write!(f, "byte {} belongs", DAY_LEAD[place]),
+            (Field::Day, 0..CONTENT) => write!(f, "byte {} belongs", DAY_LEAD[place]),
             (Field::Day, _) => f.write_str("they belong"),
-            (Field::Series(_), 0..=2) => write!(f, "byte {} belongs", SERIES_LEAD[place]),
+            (Field::Series(_), 0..CONTENT) => write!(f, "byte {} belongs", SERIES_LEAD[place]),
             (Field::Series(_), 3..=6) => {
                 let due = char::from(PREFIX[place - CONTENT]);
                 write!(f, "{due} belongs: names begin with OW20")
@@ -120,6 +125,7 @@ fn past_days<W: fmt::Write>(f: &mut fmt::Formatter<W>, file: &[u8]) -> fmt::Resu
 }
 
 // The name that begins at a place. Its bytes were judged, so that they are text.
+// Kept: a text without letters for no name; an Option would be told as one again, in a refusal that has been begun.
 fn name_at(file: &[u8], place: usize) -> &str {
     let rest = file.get(place..).unwrap_or(&[]);
     let name = rest.get(..usize::from(LENGTH)).unwrap_or(&[]);
@@ -164,6 +170,7 @@ fn off_grid<W: fmt::Write>(f: &mut fmt::Formatter<W>, name: &str) -> fmt::Result
 }
 
 // 31: the bytes, and the place that stands beside it.
+// Kept: the place; of the causes 31 alone is told here, and any other could come in a Cause, which would be matched for its place.
 #[derive(Clone, Copy)]
 pub struct FileRefusal<'a> {
     pub file: &'a [u8],

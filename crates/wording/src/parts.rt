@@ -2,7 +2,7 @@
 // on it.
 use base::{Cause, Tier};
 use dates::{DAYS, MONTHS};
-use reading::Register;
+use reading::{PAST_PRICES, Register};
 use std::fmt;
 use std::fmt::Display;
 use text::{Date, Month};
@@ -12,9 +12,6 @@ use text::{Date, Month};
 pub const LAST_DAY: u32 = DAYS as u32 - 1;
 
 pub const LAST_MONTH: u32 = MONTHS as u32 - 1;
-
-// No price is as high as this: a name has four digits for it.
-const PAST_PRICES: u32 = 10000;
 
 // How each refusal begins.
 #[derive(Clone, Copy)]
