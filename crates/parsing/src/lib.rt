@@ -25,6 +25,7 @@ enum Field {
 }
 
 impl Field {
+    // Kept: this and `length` are two columns of a table of two rows; one function for both would answer a pair, of which each caller takes a half.
     fn tag(self) -> u8
         ensures { result ≡ tag_of self }
     {
@@ -35,6 +36,7 @@ impl Field {
     }
 
     // How many bytes of content it has.
+    // Kept: as `tag`.
     fn length(self) -> usize
         ensures { result ≡ length_of self }
     {
