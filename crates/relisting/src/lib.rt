@@ -98,7 +98,6 @@ fn relist(register: &mut [u8; REGISTER_LENGTH], rows: u16, dropped: u16, plans: 
     ensures value { result ≡ length (ladders_from (plan_of plans.now) 0 6 (drop dropped (read_rows rows (drop rows_from register.old)))) }
     ensures register_after { register.new ≡ quiet_bytes plans.now.day (ladders_from (plan_of plans.now) 0 6 (drop dropped (read_rows rows (drop rows_from register.old)))) }
 {
-    // Kept: the copy is a whole register, so no length stands beside it.
     let copy = *register;
     let (_, old) = layout::rows(&copy, usize::from(rows)).split_at(usize::from(dropped));
     list(register, old, plans)
