@@ -59,17 +59,15 @@ fn scan_months(calendar: &[u8; CALENDAR_LENGTH], fridays: &[u16; 1200]) -> Optio
     ensures { result ≡ found_in (lacks calendar.now) 0 month_count }
 {
     let from = first_quiet(calendar, fridays)?;
-    'months: for month in from..MONTHS {
+    for month in from..MONTHS {
         let last = fridays[usize::from(month)];
         if recent_session(calendar, last) {
             continue;
         }
-        for day in dates::first_day(month)..last - 14 {
-            if calendar::has_session(calendar, day) {
-                continue 'months;
-            }
+        let mut before = dates::first_day(month)..last - 14;
+        if !before.any(|day| calendar::has_session(calendar, day)) {
+            return Some(month);
         }
-        return Some(month);
     }
     None
 }
