@@ -2,6 +2,7 @@
 use base::Tier;
 use reading::{Register, Span};
 
+// Kept: tier, expiry and span are a call each, as in `report` and `picture`; a type of the three would be taken apart in each again.
 // The month's tier, expiry date and span are those of the register's day.
 #[derive(Clone, Copy)]
 pub struct Case<'a> {

@@ -147,7 +147,8 @@ fn reached<W: fmt::Write>(f: &mut fmt::Formatter<W>, case: Case<'_>, next: Sessi
             "\n  {waiting} waits as an announcement: the session of {day} lists all prices up to there",
         );
     }
-    match close_to_bring(next.tier, price, side) {
+    let tier = next.tier;
+    match (Sought { tier, price, side }).close_to_bring() {
         None => f.write_str("\n  no close brings it in")?,
         Some(close) => {
             let reach = match side {
@@ -164,40 +165,50 @@ fn reached<W: fmt::Write>(f: &mut fmt::Formatter<W>, case: Case<'_>, next: Sessi
     announcement(f, case)
 }
 
-// Whether a close requires prices up to the given one, or only prices above it.
-fn reaches(tier: Tier, close: u32, price: u32, side: Side) -> bool {
-    lookup::required(tier, close).is_some_and(|required| match side {
-        Side::Above => price <= u32::from(required.high),
-        Side::Below => price < u32::from(required.low),
-    })
+// A price outside the span, for which a close is sought.
+#[derive(Clone, Copy)]
+struct Sought {
+    tier: Tier,
+    price: u32,
+    side: Side,
 }
 
-// Where the closes part: those below it do not reach so far, those from it on do.
-// Kept: std searches by halves in slices alone, and there are 946,000 closes.
-fn reaching_close(tier: Tier, price: u32, side: Side) -> u32 {
-    let mut low = LOWEST_CLOSE;
-    let mut high = HIGHEST_CLOSE + 1;
-    while low < high {
-        let close = low + (high - low) / 2;
-        if reaches(tier, close, price, side) {
-            high = close;
-        } else {
-            low = close + 1;
-        }
+impl Sought {
+    // Whether a close requires prices up to this one, or only prices above it.
+    fn is_reached(self, close: u32) -> bool {
+        lookup::required(self.tier, close).is_some_and(|required| match self.side {
+            Side::Above => self.price <= u32::from(required.high),
+            Side::Below => self.price < u32::from(required.low),
+        })
     }
-    low
-}
 
-// The close nearest to the others that brings a price in, above the span the lowest, below it the highest.
-fn close_to_bring(tier: Tier, price: u32, side: Side) -> Option<u32> {
-    let close = reaching_close(tier, price, side);
-    let close = match side {
-        Side::Above => close,
-        Side::Below => close.checked_sub(1)?,
-    };
-    (LOWEST_CLOSE..=HIGHEST_CLOSE)
-        .contains(&close)
-        .then_some(close)
+    // Where the closes part: those below it do not reach so far, those from it on do.
+    // Kept: std searches by halves in slices alone, and there are 946,000 closes.
+    fn reaching_close(self) -> u32 {
+        let mut low = LOWEST_CLOSE;
+        let mut high = HIGHEST_CLOSE + 1;
+        while low < high {
+            let close = low + (high - low) / 2;
+            if self.is_reached(close) {
+                high = close;
+            } else {
+                low = close + 1;
+            }
+        }
+        low
+    }
+
+    // The close nearest to the others that brings the price in, above the span the lowest, below it the highest.
+    fn close_to_bring(self) -> Option<u32> {
+        let close = self.reaching_close();
+        let close = match self.side {
+            Side::Above => close,
+            Side::Below => close.checked_sub(1)?,
+        };
+        (LOWEST_CLOSE..=HIGHEST_CLOSE)
+            .contains(&close)
+            .then_some(close)
+    }
 }
 
 fn announcement<W: fmt::Write>(f: &mut fmt::Formatter<W>, case: Case<'_>) -> fmt::Result {

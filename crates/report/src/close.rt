@@ -19,6 +19,13 @@ fn nearest_of(before: Register<'_>, after: Register<'_>) -> Option<Nearest> {
     Some(Nearest { month, span })
 }
 
+impl Nearest {
+    // The ends of its span as closes would have them, in hundredths.
+    fn ends(self) -> (u32, u32) {
+        (in_hundredths(self.span.low), in_hundredths(self.span.high))
+    }
+}
+
 impl Display for Nearest {
     fn fmt<W: fmt::Write>(&self, f: &mut fmt::Formatter<W>) -> fmt::Result {
         write!(f, "the {} ladder, {}", Month(self.month), self.span)
@@ -63,8 +70,7 @@ impl Display for Distance<'_> {
         let close = self.close;
         write!(f, "\n  close {}, ", Points(close))?;
         if let Some(nearest) = nearest_of(self.before, self.after) {
-            let low = in_hundredths(nearest.span.low);
-            let high = in_hundredths(nearest.span.high);
+            let (low, high) = nearest.ends();
             let level = low.midpoint(high);
             return write!(f, "{}, the middle of {nearest}", Apart { close, level });
         }
@@ -97,8 +103,7 @@ impl FarClose {
         added: u16,
     ) -> Option<FarClose> {
         let nearest = nearest_of(before, after)?;
-        let low = in_hundredths(nearest.span.low);
-        let high = in_hundredths(nearest.span.high);
+        let (low, high) = nearest.ends();
         if (low..=high).contains(&close) {
             return None;
         }

@@ -1,7 +1,6 @@
 // A file of series: what was written, and what it has.
 use fields::{CONTENT, DAY_FIELD, SERIES_FIELD};
-use names::Kind;
-use phrases::{OriginByte, SeriesName};
+use phrases::{KindName, OriginByte, SeriesName};
 use std::fmt;
 use std::fmt::Display;
 use text::{Date, Month, Plural};
@@ -69,15 +68,12 @@ impl Display for SeriesLine {
         let Ok(series) = names::read(&field[CONTENT..ORIGIN]) else {
             return Ok(());
         };
-        let kind = match series.kind {
-            Kind::Call => "call",
-            Kind::Put => "put ",
-        };
         writeln!(
             f,
-            "{}  {}  {kind}  {:6}  {}",
+            "{}  {}  {:4}  {:6}  {}",
             SeriesName::from(series),
             Month(u32::from(series.month)),
+            KindName(series.kind),
             series.price,
             OriginByte(field[ORIGIN]),
         )

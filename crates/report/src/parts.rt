@@ -5,6 +5,7 @@ use std::fmt;
 use std::fmt::Display;
 use text::{Date, Month};
 
+// Kept: tier, expiry and span are a call each, as in `picture` and `inquiry`; a type of the three would be taken apart in each again.
 // How a month stands in a register, with how many of its rows are new on the register's day.
 #[derive(Clone, Copy)]
 pub struct Ladder {

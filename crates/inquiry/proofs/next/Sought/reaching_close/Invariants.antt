@@ -1,6 +1,6 @@
--- `inquiry::next::reaching_close` is safe and ends. Assumes nothing.
+-- `inquiry::next::Sought::reaching_close` is safe and ends. Assumes nothing.
 use Prim.Native.Nat.{◌≤◌, ◌-◌}
-use Rattle.inquiry.proofs.next.reaching_close.Given as goal
+use Rattle.inquiry.proofs.next.Sought.reaching_close.Given as goal
 
 abbrev pub invariant-loop-low : goal.invariant-loop-low
 invariant-loop-low l = (l.low ≤ l.high) × (l.high ≤ 955000)
