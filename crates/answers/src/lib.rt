@@ -2,6 +2,9 @@
 // from its list.
 #![tactic(auto)]
 
+ghost use Rattle.std.specs.Prelude.{◌≡◌, IfOk};
+ghost use Rattle.terminal.specs.declared.Status.TheVariants.{Done};
+
 use calendar::CALENDAR_LENGTH;
 use dates::DAYS;
 use files::Trouble;
@@ -38,7 +41,9 @@ impl Display for Accepted<'_> {
     }
 }
 
-fn answer(system: &System, what: impl Display + Drop) -> Result<Status, Trouble> {
+fn answer(system: &System, what: impl Display + Drop) -> Result<Status, Trouble>
+    ensures { IfOk result (λ end. end ≡ Done) }
+{
     terminal::say(system, Stream::Output, what, Status::Done)
 }
 
@@ -96,7 +101,8 @@ fn all_rows(system: &System, register: Register<'_>) -> Result<Status, Trouble> 
     terminal::say_bytes(system, Stream::Output, out.as_bytes(), Status::Done)
 }
 
-fn rows(system: &System, register: Register<'_>) -> Result<Status, Trouble> {
+// Its rows, of one month or of all.
+pub fn rows(system: &System, register: Register<'_>) -> Result<Status, Trouble> {
     if commands::count(system) == 4 {
         return all_rows(system, register);
     }
@@ -107,7 +113,17 @@ fn rows(system: &System, register: Register<'_>) -> Result<Status, Trouble> {
     }
 }
 
-fn draw(system: &System, register: Register<'_>) -> Result<Status, Trouble> {
+// The six ladders.
+pub fn show(system: &System, register: Register<'_>) -> Result<Status, Trouble>
+    ensures { IfOk result (λ end. end ≡ Done) }
+{
+    answer(system, Glance(register))
+}
+
+// The six ladders drawn.
+pub fn picture(system: &System, register: Register<'_>) -> Result<Status, Trouble>
+    ensures { IfOk result (λ end. end ≡ Done) }
+{
     let mut out = Text::<OUTPUT_LENGTH>::new();
     out.say(Picture(register));
     if commands::is_stream(commands::word(system, 4).as_bytes()) {
@@ -117,7 +133,8 @@ fn draw(system: &System, register: Register<'_>) -> Result<Status, Trouble> {
     Ok(Status::Done)
 }
 
-fn why(system: &System, register: Register<'_>) -> Result<Status, Trouble> {
+// Why a series is listed, or why it is not.
+pub fn why(system: &System, register: Register<'_>) -> Result<Status, Trouble> {
     let (month, price) = if commands::count(system) == 5 {
         match names::read(commands::word(system, 4).as_bytes()) {
             Ok(series) => (u32::from(series.month), u32::from(series.price)),
@@ -137,26 +154,18 @@ fn why(system: &System, register: Register<'_>) -> Result<Status, Trouble> {
     )
 }
 
-// What is asked of a register.
-#[derive(Clone, Copy, PartialEq, Eq, Debug)]
-pub enum Question {
-    Rows,
-    Show,
-    Picture,
-    Why,
-}
-
-// Answers a question about a register; one that cannot be used is refused.
-pub fn ask(system: &System, question: Question, register: Register<'_>) -> Result<Status, Trouble> {
+// Answers a question about a register by one of the four functions above; a register that cannot be used is refused.
+pub fn ask<F: FnOnce(&System, Register<'_>) -> Result<Status, Trouble>>(
+    system: &System,
+    register: Register<'_>,
+    answer: F,
+) -> Result<Status, Trouble>
+    requires { F.IsAlwaysCallable answer }
+{
     if let Err(cause) = register.refusal() {
         return terminal::refuse(system, OpeningRefusal { register, cause });
     }
-    match question {
-        Question::Rows => rows(system, register),
-        Question::Show => answer(system, Glance(register)),
-        Question::Picture => draw(system, register),
-        Question::Why => why(system, register),
-    }
+    answer(system, register)
 }
 
 fn read_name(system: &System) -> Result<Status, Trouble> {
@@ -188,6 +197,7 @@ fn write_name(system: &System) -> Result<Status, Trouble> {
     let kind = kind_of(system, 3)?;
     let price = terminal::number(system, 4, Meaning::Price)?;
     let mut name = [0; names::LENGTH];
+    // Kept: names::write is a call of C too, which gives the kind as a number; it alone refuses a month or a price.
     match names::write(&mut name, month, u32::from(kind.number()), price) {
         Ok(()) => {
             let mut line = Text::<16>::new();

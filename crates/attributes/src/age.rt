@@ -8,6 +8,7 @@ use system::System;
 pub struct Age(pub u64);
 
 // How long ago a file was changed: since 1970 began where that cannot be known, and not at all where it lies ahead of the clock.
+// Kept: no Option: its one caller tells an age in any case, so it would make this one of a None.
 pub fn age_of(system: &System, path: &[u8]) -> Age {
     let changed = match crate::of(system, path) {
         Ok(Some(file)) => u64::try_from(file.changed).unwrap_or(0),
@@ -25,6 +26,7 @@ impl Display for Count {
     fn fmt<W: fmt::Write>(&self, f: &mut fmt::Formatter<W>) -> fmt::Result {
         let n = self.0;
         let unit = self.1;
+        // Kept: a Plural is one of a u32, to which this number would be narrowed first.
         let s = if n == 1 { "" } else { "s" };
         write!(f, "{n} {unit}{s}")
     }

@@ -70,6 +70,7 @@ impl Attributes {
     }
 
     // Whether both are those of one file.
+    // Kept: a derived == would want a type of the two numbers, made from both sides for this one question.
     pub fn is_of_same_file(&self, other: &Attributes) -> bool
         ensures { IsTrue result ↔ (self.now.device ≡ other.now.device) × (self.now.inode ≡ other.now.inode) }
     {

@@ -161,13 +161,14 @@ impl<'a> Booking<'a> {
 }
 
 // Only a start may do without a register file: there is none before the first.
+// Kept: terminal::register_or_none takes each missing one as empty; one for both would be handed what a missing one means.
 fn load_register(
     system: &System,
     call: Call,
     path: &[u8],
     register: &mut [u8],
 ) -> Result<(), Trouble> {
-    match files::load(system, path, register)? {
+    match files::load(system, path, register)?.map(|file| file.len()) {
         None if matches!(call, Call::Start(_, _)) => Ok(()),
         None => Err(files::complain(
             system,
@@ -239,10 +240,8 @@ pub fn announce(system: &System, calendar: &[u8], room: &mut [u8]) -> Result<Sta
 pub fn preview(system: &System, register: Register<'_>) -> Result<Status, Trouble> {
     let (day, close) = day_and_close(system)?;
     let call = Call::Session(day, close);
-    let mut copy = space::zeros::<REGISTER_LENGTH>();
-    for (byte, &old) in copy.iter_mut().zip(register.bytes) {
-        *byte = old;
-    }
+    let copy = <[u8; REGISTER_LENGTH]>::try_from(register.bytes);
+    let mut copy = copy.unwrap_or_else(|_| space::zeros());
     let answer = calling::make(register.calendar, &mut copy, call);
     let booking = Booking {
         before: register,

@@ -28,26 +28,11 @@ impl Display for FileKind {
 
 // What a command does with a file.
 #[derive(Clone, Copy, PartialEq, Eq, Debug)]
-pub struct Access {
-    pub read: bool,
-    pub written: bool,
-}
-
-impl Access {
-    pub const READ: Access = Access {
-        read: true,
-        written: false,
-    };
-
-    pub const WRITTEN: Access = Access {
-        read: false,
-        written: true,
-    };
-
-    pub const BOTH: Access = Access {
-        read: true,
-        written: true,
-    };
+pub enum Access {
+    Read,
+    Written,
+    // It is read, and then written.
+    Both,
 }
 
 #[derive(Clone, Copy, PartialEq, Eq, Debug)]

@@ -35,7 +35,7 @@ pub static TABLE: [Row; 7] = [
         name: "--journal",
         file: Some(FileUse {
             kind: FileKind::Journal,
-            access: Access::BOTH,
+            access: Access::Both,
             takes_stream: false,
         }),
     },
@@ -44,7 +44,7 @@ pub static TABLE: [Row; 7] = [
         name: "--file",
         file: Some(FileUse {
             kind: FileKind::Series,
-            access: Access::WRITTEN,
+            access: Access::Written,
             takes_stream: false,
         }),
     },

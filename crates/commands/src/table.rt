@@ -101,7 +101,7 @@ const CALENDAR: Word = Word::File(
     "CALENDAR",
     FileUse {
         kind: FileKind::Calendar,
-        access: Access::READ,
+        access: Access::Read,
         takes_stream: false,
     },
 );
@@ -111,7 +111,7 @@ const REGISTER: Word = Word::File(
     "REGISTER",
     FileUse {
         kind: FileKind::Register,
-        access: Access::READ,
+        access: Access::Read,
         takes_stream: false,
     },
 );
@@ -120,7 +120,7 @@ const CHANGED_REGISTER: Word = Word::File(
     "REGISTER",
     FileUse {
         kind: FileKind::Register,
-        access: Access::BOTH,
+        access: Access::Both,
         takes_stream: false,
     },
 );
@@ -129,7 +129,7 @@ const MADE_REGISTER: Word = Word::File(
     "REGISTER",
     FileUse {
         kind: FileKind::Register,
-        access: Access::WRITTEN,
+        access: Access::Written,
         takes_stream: false,
     },
 );
@@ -139,7 +139,7 @@ const JOURNAL: Word = Word::File(
     "JOURNAL",
     FileUse {
         kind: FileKind::Journal,
-        access: Access::READ,
+        access: Access::Read,
         takes_stream: true,
     },
 );
@@ -148,7 +148,7 @@ const CHANGED_JOURNAL: Word = Word::File(
     "JOURNAL",
     FileUse {
         kind: FileKind::Journal,
-        access: Access::BOTH,
+        access: Access::Both,
         takes_stream: false,
     },
 );
@@ -157,7 +157,7 @@ const LIST: Word = Word::File(
     "LIST",
     FileUse {
         kind: FileKind::List,
-        access: Access::READ,
+        access: Access::Read,
         takes_stream: true,
     },
 );
@@ -167,7 +167,7 @@ const MADE_CALENDAR: Word = Word::File(
     "FILE",
     FileUse {
         kind: FileKind::Calendar,
-        access: Access::WRITTEN,
+        access: Access::Written,
         takes_stream: false,
     },
 );
@@ -176,7 +176,7 @@ const PICTURE: Word = Word::File(
     "FILE",
     FileUse {
         kind: FileKind::Picture,
-        access: Access::WRITTEN,
+        access: Access::Written,
         takes_stream: true,
     },
 );
@@ -185,7 +185,7 @@ const MADE_SERIES: Word = Word::File(
     "FILE",
     FileUse {
         kind: FileKind::Series,
-        access: Access::WRITTEN,
+        access: Access::Written,
         takes_stream: false,
     },
 );
@@ -194,7 +194,7 @@ const SERIES: Word = Word::File(
     "FILE",
     FileUse {
         kind: FileKind::Series,
-        access: Access::READ,
+        access: Access::Read,
         takes_stream: true,
     },
 );
@@ -347,7 +347,7 @@ impl Command {
     }
 
     // The first form that has room for so many words; the last one where none has.
-    // Kept: no Option: what is told of too many words is told by the last form, which each caller would make of a None.
+    // Kept: no Option: check_words tells too many words by the last form, and `get` in `file` gives none anyway.
     pub fn form(self, words: usize) -> Form {
         let row = self.row();
         match row.longer {
@@ -369,9 +369,7 @@ impl Command {
     // Whether it changes files.
     pub fn changes(self) -> bool {
         let words = self.row().form.0;
-        words
-            .iter()
-            .any(|word| word.file().is_some_and(|file| file.access.written))
+        words.iter().any(|word| word.file().is_some_and(|file| file.access != Access::Read))
             || self.takes(Opt::Journal)
     }
 }

@@ -9,7 +9,8 @@ use crate::table::Command;
 use system::{PATH_MAX, System};
 use text::Text;
 
-// An argument; one that is not there or does not fit is empty, and an empty one names nothing either.
+// An argument; empty where there is none, or where it does not fit.
+// Kept: no Option: an empty argument names nothing either, so whoever asks makes the one of the other.
 fn argument(system: &System, at: usize) -> Text<PATH_MAX> {
     system.argument(at).unwrap_or_else(Text::new)
 }
@@ -52,7 +53,7 @@ pub fn count(system: &System) -> usize {
 }
 
 // Word i; empty where there is none, or where it does not fit.
-// Kept: no Option, since an empty word names nothing either and each caller would make the one of the other.
+// Kept: no Option: an empty word must name nothing too, so whoever asks tests for empty anyway.
 pub fn word(system: &System, i: usize) -> Text<PATH_MAX> {
     let at = (0..system.argument_count())
         .filter(|&at| is_word(system, at))

@@ -1,13 +1,11 @@
 // The console program as a library: `run` does what the program's arguments ask.
 #![tactic(auto)]
 
-use answers::Question;
 use calendar::CALENDAR_LENGTH;
 use commands::Command;
 use files::Trouble;
 use layout::REGISTER_LENGTH;
 use reading::Register;
-use restoring::Use;
 use system::System;
 use terminal::Status;
 
@@ -38,16 +36,21 @@ fn preview(system: &System) -> Result<Status, Trouble> {
     )
 }
 
-fn ask(system: &System, question: Question) -> Result<Status, Trouble> {
+fn ask<F: FnOnce(&System, Register<'_>) -> Result<Status, Trouble>>(
+    system: &System,
+    answer: F,
+) -> Result<Status, Trouble>
+    requires { F.IsAlwaysCallable answer }
+{
     let calendar = calendar(system)?;
     let bytes = register(system)?;
     answers::ask(
         system,
-        question,
         Register {
             calendar: &calendar,
             bytes: &bytes,
         },
+        answer,
     )
 }
 
@@ -62,15 +65,15 @@ fn act(system: &System, command: Command, room: &mut [u8]) -> Result<Status, Tro
         Command::Start => booking::start(system, &calendar(system)?, room),
         Command::Session => booking::session(system, &calendar(system)?, room),
         Command::Announce => booking::announce(system, &calendar(system)?, room),
-        Command::Replay => restoring::run(system, Use::Replay, &calendar(system)?, room),
-        Command::Audit => restoring::run(system, Use::Audit, &calendar(system)?, room),
+        Command::Replay => restoring::replay(system, &calendar(system)?, room),
+        Command::Audit => restoring::audit(system, &calendar(system)?, room),
         Command::Undo => undoing::undo(system, &calendar(system)?, room),
         Command::File => filing::write(system, &calendar(system)?),
         Command::Preview => preview(system),
-        Command::Rows => ask(system, Question::Rows),
-        Command::Show => ask(system, Question::Show),
-        Command::Picture => ask(system, Question::Picture),
-        Command::Why => ask(system, Question::Why),
+        Command::Rows => ask(system, answers::rows),
+        Command::Show => ask(system, answers::show),
+        Command::Picture => ask(system, answers::picture),
+        Command::Why => ask(system, answers::why),
     }
 }
 

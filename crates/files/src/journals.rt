@@ -1,4 +1,6 @@
 // Journals: a line more, behind whole lines.
+ghost use Rattle.std.specs.Prelude.{◌≡◌, Some, IfOk};
+
 use crate::paths::{destination, follow};
 use crate::replacing::{discard, sync_folder};
 use crate::{Trouble, complain, fail, fail_after, note};
@@ -15,6 +17,25 @@ impl Extent {
     // Whether its last line was cut off.
     fn is_cut(self) -> bool {
         self.whole != self.size
+    }
+}
+
+// That a file still has as many bytes as were read of it: what another run wrote meanwhile would be lost.
+pub fn check_size(
+    system: &System,
+    path: &[u8],
+    found: Option<usize>,
+    read: usize,
+) -> Result<(), Trouble>
+    ensures { IfOk result (λ _. found ≡ Some read) }
+{
+    match found {
+        Some(size) if size == read => Ok(()),
+        _ => Err(complain(
+            system,
+            path,
+            "it was changed meanwhile: run the command again",
+        )),
     }
 }
 
@@ -72,17 +93,11 @@ impl<'a> Journal<'a> {
 
     // That it has so many bytes.
     fn check_size(&self, size: usize) -> Result<(), Trouble> {
-        match self.system.end(&self.file) {
-            Ok(end) if usize::try_from(end) == Ok(size) => Ok(()),
-            Ok(_) => {
-                Err(complain(
-                    self.system,
-                    self.path,
-                    "it was changed meanwhile: run the command again",
-                ))
-            }
-            Err(error) => Err(self.fail(error)),
-        }
+        let end = self
+            .system
+            .end(&self.file)
+            .map_err(|error| self.fail(error))?;
+        check_size(self.system, self.path, usize::try_from(end).ok(), size)
     }
 
     // Ends it behind its whole lines where a line was cut off.

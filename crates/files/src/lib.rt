@@ -11,7 +11,7 @@ mod paths;
 mod replacing;
 mod telling;
 
-pub use journals::{Extent, keep_line};
+pub use journals::{Extent, check_size, keep_line};
 pub use loading::{load, load_text, peek};
 pub use paths::{beside, destination, follow, is_same, known};
 pub use replacing::{Moved, NewFile, Saved, Target, replace};

@@ -1,43 +1,40 @@
 // Reading a file whole.
-ghost use Rattle.std.specs.Prelude.{◌≤◌, length, IfOk, IfSome};
-
 use crate::{Trouble, complain, fail};
 use system::{Error, PATH_MAX, Source, System};
 use text::Text;
 
-// All that is left to read of an open file, put at the start of the buffer.
-fn read_whole(
+// All that is left to read of an open file, read into the buffer.
+fn read_whole<'a>(
     system: &System,
     from: Source<'_>,
     path: &[u8],
-    // Kept: the caller lends the room: one of this crate's own would have the length of the longest file for each read.
-    buffer: &mut [u8],
-) -> Result<usize, Trouble>
-    ensures { IfOk result (λ n. n ≤ length buffer.new) }
-{
-    let n = system.read_full(from, buffer);
+    buffer: &'a mut [u8],
+) -> Result<&'a [u8], Trouble> {
+    let room = buffer.len();
+    let read = system.read_full(from, buffer);
     // a short read is the end of the file or an error: one more byte tells
     match system.read_once(from, &mut [0]) {
-        Ok(0) => Ok(n),
-        Ok(_) if n < buffer.len() => {
+        Ok(0) => Ok(read),
+        Ok(_) if read.len() < room => {
             Err(complain(system, path, "it could not be read to its end"))
         }
         Ok(_) => {
             Err(complain(
                 system,
                 path,
-                format_args!("the file is longer than it may be: it is read up to {n} bytes"),
+                format_args!("the file is longer than it may be: it is read up to {room} bytes"),
             ))
         }
         Err(error) => Err(fail(system, path, error)),
     }
 }
 
-// Reads the whole file to the start of the buffer and answers how long it is; none where there is no such file.
-// Kept: as read_whole.
-pub fn load(system: &System, path: &[u8], buffer: &mut [u8]) -> Result<Option<usize>, Trouble>
-    ensures { IfOk result (λ found. IfSome found (λ n. n ≤ length buffer.new)) }
-{
+// The whole file, read into the buffer; none where there is no such file.
+pub fn load<'a>(
+    system: &System,
+    path: &[u8],
+    buffer: &'a mut [u8],
+) -> Result<Option<&'a [u8]>, Trouble> {
     match system.open_read(path) {
         Ok(file) => Ok(Some(read_whole(system, Source::File(&file), path, buffer)?)),
         Err(Error::ENOENT) => Ok(None),
@@ -46,13 +43,14 @@ pub fn load(system: &System, path: &[u8], buffer: &mut [u8]) -> Result<Option<us
 }
 
 // The same, where - is standard input.
-// Kept: as read_whole.
-pub fn load_text(system: &System, path: &[u8], buffer: &mut [u8]) -> Result<Option<usize>, Trouble>
-    ensures { IfOk result (λ found. IfSome found (λ n. n ≤ length buffer.new)) }
-{
-    if path == b"-".as_slice() {
-        let n = read_whole(system, Source::Input, b"standard input", buffer)?;
-        return Ok(Some(n));
+pub fn load_text<'a>(
+    system: &System,
+    path: &[u8],
+    buffer: &'a mut [u8],
+) -> Result<Option<&'a [u8]>, Trouble> {
+    if commands::is_stream(path) {
+        let text = read_whole(system, Source::Input, b"standard input", buffer)?;
+        return Ok(Some(text));
     }
     load(system, path, buffer)
 }
@@ -64,8 +62,7 @@ pub fn peek(system: &System, path: &[u8]) -> Text<PATH_MAX> {
     if let Ok(file) = system.open_read(path) {
         // Kept: what is read is put into a room of zeros, and a text, which keeps the length, has it at once.
         let mut room = [0; PATH_MAX];
-        let n = system.read_full(Source::File(&file), &mut room);
-        first.put(&room[..n]);
+        first.put(system.read_full(Source::File(&file), &mut room));
     }
     first
 }

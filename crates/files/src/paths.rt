@@ -99,6 +99,8 @@ pub fn destination(system: &System, path: &[u8]) -> Result<Option<Attributes>, T
     Err(complain(system, path, why))
 }
 
+// Whether two files that were looked for are one.
+// Kept: no PartialEq, here and below: that asks no system, tells no trouble, and would call two of nothing, or two names, equal that are not.
 fn is_one(a: Option<Attributes>, b: Option<Attributes>) -> bool {
     match (a, b) {
         (Some(a), Some(b)) => a.is_of_same_file(&b),
@@ -111,7 +113,7 @@ fn folder_of(system: &System, path: &[u8]) -> Option<Attributes> {
 }
 
 // Whether two names would be those of one file, if there were one.
-// Kept: no PartialEq, here and below: that asks no system, tells no trouble, and would call two names equal that are not.
+// Kept: as is_one.
 fn is_same_place(system: &System, a: &[u8], b: &[u8]) -> bool {
     let (_, name_a) = split(a);
     let (_, name_b) = split(b);
@@ -119,7 +121,7 @@ fn is_same_place(system: &System, a: &[u8], b: &[u8]) -> bool {
 }
 
 // The same of two names that no file has, links followed.
-// Kept: as is_same_place.
+// Kept: as is_one.
 fn is_same_missing(system: &System, a: &[u8], b: &[u8]) -> Result<bool, Trouble> {
     let real_a = follow(system, a);
     let real_b = follow(system, b);
@@ -136,7 +138,7 @@ fn is_known_same(system: &System, a: &[u8], b: &[u8]) -> Result<bool, Trouble> {
 }
 
 // Whether two names lead to one file, be it there or not. Those of which that cannot be known, which is told, count as one.
-// Kept: as is_same_place.
+// Kept: as is_one.
 pub fn is_same(system: &System, a: &[u8], b: &[u8]) -> bool {
     is_known_same(system, a, b).unwrap_or(true)
 }

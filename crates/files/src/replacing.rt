@@ -31,20 +31,18 @@ impl Model for Target {
     ghost invariant = { λ t. t.beside ≡ new_name t.path };
 }
 
-// The new file, open to be written.
-#[derive(Drop)]
+// The new file, open to be written. No Drop: it is to be finished or released.
 pub struct NewFile<'a> {
     target: &'a Target,
     file: File,
 }
 
-// The new file, closed and on the disk.
-#[derive(Drop)]
+// The new file, closed and on the disk. No Drop: it is to be put in place or discarded.
 pub struct Saved<'a> {
     target: &'a Target,
 }
 
-// A file whose new one is in its place; its folder is not yet on the disk.
+// A file whose new one is in its place; its folder is not yet on the disk. A Drop: where other trouble comes between it may stay so.
 #[derive(Drop)]
 pub struct Moved<'a> {
     path: &'a [u8],
@@ -200,7 +198,8 @@ impl<'a> NewFile<'a> {
 impl<'a> Saved<'a> {
     // Takes it away again and leaves the old file as it is.
     pub fn discard(self, system: &System) {
-        discard(system, self.target.beside());
+        let Saved { target } = self;
+        discard(system, target.beside());
     }
 
     // Puts it in the place of the old file. Trouble is told behind what has moved before, and the new file is taken away.
@@ -216,8 +215,9 @@ impl<'a> Saved<'a> {
             self.discard(system);
             return Err(trouble);
         }
+        let Saved { target } = self;
         Ok(Moved {
-            path: self.target.path(),
+            path: target.path(),
         })
     }
 

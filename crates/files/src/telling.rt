@@ -27,13 +27,6 @@ const LIKELY: [Error; 13] = [
 #[derive(Clone, Copy, Debug)]
 pub struct Trouble;
 
-// Kept: terminal has the same; shared it would be public, and promise nothing, since clauses do not see what is displayed.
-fn words(what: impl Display + Drop) -> Text<WORDS> {
-    let mut words = Text::new();
-    words.say(what);
-    words
-}
-
 fn note_bytes(system: &System, path: &[u8], what: &[u8]) {
     system.tell(path);
     system.tell(b": ");
@@ -43,12 +36,12 @@ fn note_bytes(system: &System, path: &[u8], what: &[u8]) {
 
 // For what is no error, or where something was changed.
 pub fn note(system: &System, path: &[u8], what: impl Display + Drop) {
-    note_bytes(system, path, words(what).as_bytes());
+    note_bytes(system, path, Text::<WORDS>::of(what).as_bytes());
 }
 
 // An error. A command that changes files ends with it before it has changed one.
 pub fn complain(system: &System, path: &[u8], what: impl Display + Drop) -> Trouble {
-    complain_bytes(system, path, words(what).as_bytes())
+    complain_bytes(system, path, Text::<WORDS>::of(what).as_bytes())
 }
 
 // The same with bytes that may be no text, as a name or a line of a file that were put among the words.

@@ -82,6 +82,7 @@ pub fn read(system: &System, room: &mut [u8]) -> Result<Status, Trouble> {
     match parsing::check(file) {
         Ok(filed) => tell_series(system, file, filed),
         Err(cause) => {
+            // Kept: a match on FileForm alone would want an answer for the causes that parsing never gives.
             let place = cause.beside();
             terminal::refuse(system, FileRefusal { file, place })
         }

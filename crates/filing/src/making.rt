@@ -3,7 +3,7 @@ use base::Cause;
 use reading::Register;
 
 pub fn series_of<'a>(register: Register<'_>, room: &'a mut [u8]) -> Result<&'a [u8], Cause> {
-    // Kept: usize has no From of a u32, and try_from would need an answer for what does not happen.
-    let length = loader::write(register.calendar, register.bytes, room)? as usize;
+    let length = loader::write(register.calendar, register.bytes, room)?;
+    let length = usize::try_from(length).unwrap_or(0);
     Ok(room.get(..length).unwrap_or(&[]))
 }

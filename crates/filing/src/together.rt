@@ -18,21 +18,18 @@ pub struct Targets {
 }
 
 // Their new files, open.
-#[derive(Drop)]
 pub struct NewFiles<'a> {
     register: NewFile<'a>,
     file: Option<NewFile<'a>>,
 }
 
 // Their new files, on the disk.
-#[derive(Drop)]
 pub struct SavedFiles<'a> {
     register: Saved<'a>,
     file: Option<SavedSeries<'a>>,
 }
 
 // A new file of series on the disk, and how many bytes it has.
-#[derive(Drop)]
 struct SavedSeries<'a> {
     saved: Saved<'a>,
     length: usize,
@@ -142,8 +139,8 @@ impl SavedFiles<'_> {
     // Takes both away again.
     pub fn discard(self, system: &System) {
         let SavedFiles { register, file } = self;
-        if let Some(file) = file {
-            file.saved.discard(system);
+        if let Some(SavedSeries { saved, length: _ }) = file {
+            saved.discard(system);
         }
         register.discard(system);
     }
@@ -152,7 +149,7 @@ impl SavedFiles<'_> {
     pub fn install(self, system: &System) -> Result<(), Trouble> {
         let SavedFiles { register, file } = self;
         match file {
-            Some(file) => install_both(system, register, file.saved),
+            Some(SavedSeries { saved, length: _ }) => install_both(system, register, saved),
             None => register.install(system, ""),
         }
     }

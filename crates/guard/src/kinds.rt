@@ -21,7 +21,7 @@ pub enum Found {
 }
 
 // Tag and length of the field of a day.
-// Kept: a const has no try_from, and to read the length back from its two bytes and compare it is four lines for this one.
+// Kept: a constant can call no `try_from`; wording has these bytes beside those of a series, which nothing here asks for.
 const DAY_BEGINS: [u8; 3] = [DAY_TAG, DAY_LENGTH as u8, 0];
 
 // So many lines are looked at for the first that says something.

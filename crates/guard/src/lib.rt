@@ -5,7 +5,7 @@
 mod kinds;
 mod slots;
 
-use commands::{Command, FileUse};
+use commands::{Access, Command, FileUse};
 use files::Trouble;
 use kinds::Found;
 use slots::{Given, SLOTS, Slot};
@@ -21,7 +21,7 @@ fn check_kind(system: &System, name: &[u8], file: FileUse) -> Result<(), Trouble
             name,
             format_args!("that is a {kind}, and a {wanted} is wanted: were two names exchanged?"),
         )),
-        Found::Unknown if !file.access.read => Err(files::complain(
+        Found::Unknown if file.access == Access::Written => Err(files::complain(
             system,
             name,
             format_args!(
@@ -60,10 +60,10 @@ fn check_apart_from_all(
     name: &[u8],
 ) -> Result<(), Trouble> {
     for other in SLOTS {
-        if other != slot {
-            if let Some(other) = other.given(system, command) {
-                check_apart(system, name, other.name.as_bytes())?;
-            }
+        if other != slot
+            && let Some(other) = other.given(system, command)
+        {
+            check_apart(system, name, other.name.as_bytes())?;
         }
     }
     Ok(())
@@ -72,7 +72,7 @@ fn check_apart_from_all(
 // That the file of a slot may be used as the command wants to.
 fn check_file(system: &System, command: Command, slot: Slot, given: Given) -> Result<(), Trouble> {
     let name = given.name.as_bytes();
-    if given.file.access.written {
+    if given.file.access != Access::Read {
         files::destination(system, name)?;
         check_apart_from_all(system, command, slot, name)?;
     }

@@ -9,11 +9,10 @@ pub enum Slot {
     Option(Opt),
 }
 
-pub const SLOTS: [Slot; 6] = [
+pub const SLOTS: [Slot; 5] = [
     Slot::Word(2),
     Slot::Word(3),
     Slot::Word(4),
-    Slot::Word(5),
     Slot::Option(Opt::Journal),
     Slot::Option(Opt::File),
 ];

@@ -137,7 +137,7 @@ impl Journal<'_> {
             calendar,
             bytes: &given,
         };
-        let way = Way::between(given, register, found.passed, false);
+        let way = Way::between(given, register, found.passed);
         Err(self.complain_way(way))
     }
 }

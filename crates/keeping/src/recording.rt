@@ -12,7 +12,7 @@ use text::Text;
 // How a journal is for a call that is to be kept in it.
 #[derive(Drop)]
 pub enum Kept {
-    // No journal is asked for.
+    // No line is kept: no journal is asked for, or the call is refused for its files.
     Unasked,
     // The line goes there.
     Behind(Place),
@@ -92,7 +92,9 @@ pub fn look(
     let Some(name) = commands::value(system, Opt::Journal) else {
         return Ok(Kept::Unasked);
     };
-    match files::load(system, name.as_bytes(), room)? {
+    // Kept: the length alone goes on: `ended` may put a line feed behind the text, into the room.
+    let size = files::load(system, name.as_bytes(), room)?.map(|text| text.len());
+    match size {
         Some(size) => {
             if room.len().saturating_sub(LINE) < size {
                 return Err(files::complain(

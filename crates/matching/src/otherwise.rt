@@ -5,19 +5,20 @@ use lines::{Quoted, Shown};
 use std::fmt;
 use std::fmt::Display;
 
-// What the number of an answer means.
-#[derive(Clone, Copy)]
-struct Meaning(u32);
+const ACCEPTED: &str = "accepted";
 
-impl Display for Meaning {
+// What the number means that a line tells.
+#[derive(Clone, Copy)]
+struct Told(u32);
+
+impl Display for Told {
     fn fmt<W: fmt::Write>(&self, f: &mut fmt::Formatter<W>) -> fmt::Result {
+        if self.0 == 0 {
+            return f.write_str(ACCEPTED);
+        }
         match Cause::try_from(self.0) {
-            Ok(cause) => write!(f, "{cause}"),
-            Err(NoCause) => f.write_str(if self.0 == 0 {
-                "accepted"
-            } else {
-                "no cause that there is"
-            }),
+            Ok(cause) => cause.fmt(f),
+            Err(NoCause) => f.write_str("no cause that there is"),
         }
     }
 }
@@ -36,16 +37,18 @@ impl Display for Otherwise<'_> {
         write!(f, "{line}")?;
         if let Some(number) = journal::number_told(line.line) {
             let told = Quoted(journal::answer_in(line.line));
-            let meaning = Meaning(number);
+            let meaning = Told(number);
             write!(f, "  it tells {told}: {meaning}\n")?;
         }
         let answer = self.entry.answer;
         let given = Answered(answer);
-        let meaning = Meaning(answer.map_or_else(|cause| u32::from(cause.number()), |_| 0));
-        write!(
-            f,
-            "  its call gives {given}: {meaning}\n  \
-            that means: this line or one before it was changed or lost, or the calendar is another one"
+        write!(f, "  its call gives {given}: ")?;
+        match answer {
+            Ok(_) => f.write_str(ACCEPTED)?,
+            Err(cause) => cause.fmt(f)?,
+        }
+        f.write_str(
+            "\n  that means: this line or one before it was changed or lost, or the calendar is another one",
         )
     }
 }

@@ -66,6 +66,7 @@ fn lacks_announcements(given: Register<'_>, register: Register<'_>) -> bool {
 }
 
 // Whether a row of a month that is still live stands in the register: sessions take away no other.
+// Kept: no == of two rows: rows_of goes by the order of months, so that a damaged register's rows may be of another month.
 fn keeps_row(register: Register<'_>, row: Row) -> bool {
     row.month < register.first_live()
         || register.rows_of(row.month).any(|other| {
@@ -75,12 +76,7 @@ fn keeps_row(register: Register<'_>, row: Row) -> bool {
 
 impl<'a> Way<'a> {
     // What lies between a register and what its journal gives, where the journal's last call does not explain it.
-    pub fn between(
-        given: Register<'a>,
-        register: Register<'a>,
-        is_passed: bool,
-        is_audited: bool,
-    ) -> Way<'a> {
+    pub fn between(given: Register<'a>, register: Register<'a>, is_passed: bool) -> Way<'a> {
         let ends = given.day();
         let stands = register.day();
         if given.status() == 0 {
@@ -95,12 +91,8 @@ impl<'a> Way<'a> {
             Way::Empty { ends }
         } else if is_passed {
             Way::Passed { ends, stands }
-        } else if !is_audited {
-            Way::Other
-        } else if register.refusal().is_err() {
-            Way::OtherDamaged
         } else {
-            Way::OtherSound
+            Way::Other
         }
     }
 

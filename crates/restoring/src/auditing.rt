@@ -1,4 +1,5 @@
 // A register held against what its journal gives.
+use crate::Restored;
 use audit::Difference;
 use files::Trouble;
 use keeping::Journal;
@@ -22,17 +23,21 @@ fn way_between<'a>(
     let mut again = space::zeros::<REGISTER_LENGTH>();
     let sought = matching::run(text, given.calendar, &mut again, Some(register.bytes));
     let is_passed = sought.is_ok_and(|found| found.passed);
-    Way::between(given, register, is_passed, true)
+    match Way::between(given, register, is_passed) {
+        Way::Other if register.refusal().is_err() => Way::OtherDamaged,
+        Way::Other => Way::OtherSound,
+        way => way,
+    }
 }
 
 // Holds the register of word 4 against the one that is given.
-pub fn audit(
-    journal: Journal<'_>,
-    text: &[u8],
-    last: Option<Last<'_>>,
-    given: Register<'_>,
-) -> Result<Status, Trouble> {
-    let Journal { system, path } = journal;
+pub fn audit(restored: Restored<'_>) -> Result<Status, Trouble> {
+    let Restored {
+        journal: Journal { system, path },
+        text,
+        last,
+        register: given,
+    } = restored;
     let mut register = space::zeros::<REGISTER_LENGTH>();
     terminal::file(system, 4, &mut register)?;
     if register.as_slice() == given.bytes {
@@ -53,7 +58,7 @@ pub fn audit(
         calendar: calendar_name.as_bytes(),
         register: register_name.as_bytes(),
         // one that was read from a standard stream has no name here
-        journal: if path == b"-".as_slice() {
+        journal: if commands::is_stream(path) {
             b"JOURNAL"
         } else {
             path

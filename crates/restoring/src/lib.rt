@@ -7,25 +7,30 @@ mod replacing;
 use files::Trouble;
 use keeping::Journal;
 use layout::REGISTER_LENGTH;
+use matching::Last;
 use reading::Register;
 use system::System;
 use terminal::Status;
 use wording::CalendarRefusal;
 
-// What is done with the register that a journal gives.
-#[derive(Clone, Copy, PartialEq, Eq, Debug)]
-pub enum Use {
-    Replay,
-    Audit,
+// What a journal gives: its whole lines, the last accepted call of them, and the register.
+#[derive(Clone, Copy)]
+struct Restored<'a> {
+    journal: Journal<'a>,
+    text: &'a [u8],
+    last: Option<Last<'a>>,
+    register: Register<'a>,
 }
 
-// Both make the register of the journal's lines, if these are a journal and each tells what its call gives.
-fn restore(
+// Makes the register of the journal's lines, if these are a journal and each tells what its call gives, and uses it.
+fn restore_from<F: FnOnce(Restored<'_>) -> Result<Status, Trouble>>(
     journal: Journal<'_>,
-    used: Use,
     text: &[u8],
     calendar: &[u8],
-) -> Result<Status, Trouble> {
+    used: F,
+) -> Result<Status, Trouble>
+    requires { F.IsAlwaysCallable used }
+{
     let mut register = space::zeros::<REGISTER_LENGTH>();
     let found = matching::run(text, calendar, &mut register, None).map_err(
         |refused| journal.complain_line(refused),
@@ -39,27 +44,31 @@ fn restore(
     }
     let mut register = space::zeros::<REGISTER_LENGTH>();
     rebuilding::rebuild(journal.system, journal.path, text, calendar, &mut register)?;
-    let given = Register {
-        calendar,
-        bytes: &register,
-    };
-    match used {
-        Use::Replay => replacing::replace(journal, given),
-        Use::Audit => auditing::audit(journal, text, found.last, given),
-    }
+    used(Restored {
+        journal,
+        text,
+        last: found.last,
+        register: Register {
+            calendar,
+            bytes: &register,
+        },
+    })
 }
 
-// The journal of word 3, for whose text there is room.
-pub fn run(
+// The same of the journal of word 3, for whose text there is room.
+fn restore<F: FnOnce(Restored<'_>) -> Result<Status, Trouble>>(
     system: &System,
-    used: Use,
     calendar: &[u8],
     room: &mut [u8],
-) -> Result<Status, Trouble> {
+    used: F,
+) -> Result<Status, Trouble>
+    requires { F.IsAlwaysCallable used }
+{
     // a calendar that is refused would refuse every call
     if let Err(cause) = passing::check(calendar) {
         return terminal::refuse(system, CalendarRefusal { calendar, cause });
     }
+    // Kept: the length alone goes on: `ended` may put a line feed behind the text, into the room.
     let size = terminal::text(system, 3, room)?.len();
     let name = commands::word(system, 3);
     let journal = Journal {
@@ -75,5 +84,20 @@ pub fn run(
             "its last line was cut off; it is left out",
         );
     }
-    restore(journal, used, text, calendar)
+    restore_from(journal, text, calendar, used)
+}
+
+// replay: the register that the journal gives, put in place.
+pub fn replay(system: &System, calendar: &[u8], room: &mut [u8]) -> Result<Status, Trouble> {
+    restore(
+        system,
+        calendar,
+        room,
+        |restored| replacing::replace(restored.journal, restored.register),
+    )
+}
+
+// audit: a register held against the one that the journal gives.
+pub fn audit(system: &System, calendar: &[u8], room: &mut [u8]) -> Result<Status, Trouble> {
+    restore(system, calendar, room, auditing::audit)
 }

@@ -2,6 +2,7 @@
 #![tactic(auto)]
 
 use commands::{Command, Opt};
+use fields::{DAY_FIELD, SERIES_FIELD};
 use files::Trouble;
 use space::JOURNAL_LENGTH;
 use std::alloc::Global;
@@ -9,9 +10,8 @@ use std::process::ExitCode;
 use system::System;
 use terminal::Status;
 
-// Room for the file of series that names them all, 5 bytes and 15 for each of 1,200 months, two types and 507 prices: more
-// than a stack has.
-const SERIES_LENGTH: usize = 5 + 15 * 1200 * 2 * 507;
+// Room for the file of series that names them all, of 1,200 months, two types and 507 prices: more than a stack has.
+const SERIES_LENGTH: usize = DAY_FIELD + SERIES_FIELD * 1200 * 2 * 507;
 
 // How much room the command takes. Room costs time, so one that reads neither a journal nor a file of series gets none.
 fn room_length(system: &System) -> usize {

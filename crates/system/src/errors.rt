@@ -12,6 +12,7 @@ const TEXT: usize = 512;
 const BEFORE_NUMBER: &str = " (os error ";
 
 // The system's number of an error.
+// Kept: no enum: the system has more errors than it would name, and tells each by its number.
 #[derive(Clone, Copy, PartialEq, Eq, Debug)]
 pub struct Error(i32);
 
@@ -68,8 +69,7 @@ impl From<io::Error> for Error {
 // The system's words.
 impl Display for Error {
     fn fmt<W: fmt::Write>(&self, f: &mut fmt::Formatter<W>) -> fmt::Result {
-        let mut text = Text::<TEXT>::new();
-        text.say(io::Error::from_raw_os_error(self.0));
+        let text = Text::<TEXT>::of(io::Error::from_raw_os_error(self.0));
         match str::from_utf8(text.as_bytes()) {
             Ok(text) => f.write_str(words(text)),
             Err(_) => Ok(()),
@@ -90,11 +90,9 @@ fn words(text: &str) -> &str {
 impl System {
     // Writes a line to standard error: what failed, a colon and the system's words for the error.
     pub fn fail(&self, what: &[u8], error: Error) {
-        let mut words = Text::<TEXT>::new();
-        words.say(error);
         self.tell(what);
         self.tell(b": ");
-        self.tell(words.as_bytes());
+        self.tell(Text::<TEXT>::of(error).as_bytes());
         self.tell(b"\n");
     }
 }

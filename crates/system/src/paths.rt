@@ -89,10 +89,10 @@ impl System {
 
     // Takes a number below 3 where one is free, and keeps it.
     pub fn hold_stream(&self) {
-        if let Ok(file) = self.open_read(b"/dev/null") {
-            if file.as_raw_fd() <= LAST_STREAM {
-                let _ = file.into_raw_fd();
-            }
+        if let Ok(file) = self.open_read(b"/dev/null")
+            && file.as_raw_fd() <= LAST_STREAM
+        {
+            let _ = file.into_raw_fd();
         }
     }
 }

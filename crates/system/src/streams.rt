@@ -40,7 +40,7 @@ impl System {
     }
 
     // Puts what one read gives at the start of the buffer, and answers how many bytes.
-    // Kept: the caller lends the room: one of this crate's own would have the length of the longest file for each read.
+    // Kept: the count, as std's read answers it: read_full goes on behind so many bytes, and ends since these are in the room.
     pub fn read_once(&self, from: Source<'_>, buffer: &mut [u8]) -> Result<usize, Error>
         ensures { IfOk result (λ n. n ≤ length buffer.new) }
     {
@@ -50,11 +50,8 @@ impl System {
         }
     }
 
-    // Reads until the buffer is full, the input ends or a read fails, and answers how many bytes are at its start.
-    // Kept: as read_once.
-    pub fn read_full(&self, from: Source<'_>, buffer: &mut [u8]) -> usize
-        ensures { result ≤ length buffer.new }
-    {
+    // Reads until the buffer is full, the input ends or a read fails, and answers what was read.
+    pub fn read_full<'a>(&self, from: Source<'_>, buffer: &'a mut [u8]) -> &'a [u8] {
         let mut done = 0;
         // Kept: one read may give a few bytes or many, so no iterator goes over them.
         while done < buffer.len() {
@@ -63,6 +60,6 @@ impl System {
                 _ => break,
             }
         }
-        done
+        &buffer[..done]
     }
 }

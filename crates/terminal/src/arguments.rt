@@ -125,20 +125,19 @@ pub fn whole(
 }
 
 // Fills the buffer from the file that word i names.
-// Kept: the caller lends the room: one of this crate's own would have the length of the longest file for each read.
 pub fn file(system: &System, i: usize, buffer: &mut [u8]) -> Result<(), Trouble> {
     let path = commands::word(system, i);
-    let found = files::load(system, path.as_bytes(), buffer)?;
+    let found = files::load(system, path.as_bytes(), buffer)?.map(|file| file.len());
     whole(system, path.as_bytes(), buffer.len(), found)
 }
 
 // The text in the file that word i names, read into the buffer.
 pub fn text<'a>(system: &System, i: usize, buffer: &'a mut [u8]) -> Result<&'a [u8], Trouble> {
     let path = commands::word(system, i);
-    match files::load_text(system, path.as_bytes(), buffer)? {
-        Some(n) => Ok(&buffer[..n]),
-        None => Err(complain_missing(system, path.as_bytes())),
-    }
+    files::load_text(system, path.as_bytes(), buffer)?.ok_or_else(|| complain_missing(
+        system,
+        path.as_bytes(),
+    ))
 }
 
 // Replaces the file that word i names by these bytes.
@@ -153,7 +152,7 @@ pub fn followed(system: &System, i: usize) -> Result<Text<PATH_MAX>, Trouble> {
 
 // Fills a register from its file. One that is missing is empty.
 pub fn register_or_none(system: &System, path: &[u8], register: &mut [u8]) -> Result<(), Trouble> {
-    match files::load(system, path, register)? {
+    match files::load(system, path, register)?.map(|file| file.len()) {
         None => Ok(()),
         found => whole(system, path, register.len(), found),
     }

@@ -29,14 +29,8 @@ pub enum Status {
 // Room for an answer.
 const ROOM: usize = 65536;
 
-// Kept: files has the same; shared it would be public, and promise nothing, since clauses do not see what is displayed.
-fn words(what: impl Display + Drop) -> Text<ROOM> {
-    let mut words = Text::new();
-    words.say(what);
-    words
-}
-
 // Writes an answer out; a pipe or disk that takes no more is trouble.
+// Kept: the status is handed back, here and below, so that a command ends with what it says; behind a () each would add its Ok.
 pub fn say(
     system: &System,
     to: Stream,
@@ -45,7 +39,7 @@ pub fn say(
 ) -> Result<Status, Trouble>
     ensures { IfOk result (λ end. end ≡ status) }
 {
-    say_bytes(system, to, words(what).as_bytes(), status)
+    say_bytes(system, to, Text::<ROOM>::of(what).as_bytes(), status)
 }
 
 // The same of bytes that may be no text, as a name among the words, or of an answer for which there is no room here.
@@ -70,7 +64,7 @@ pub fn say_bytes(
 pub fn tell(system: &System, what: impl Display + Drop, moved: &str) -> Result<Status, Trouble>
     ensures { IfOk result (λ end. end ≡ Done) }
 {
-    tell_bytes(system, words(what).as_bytes(), moved)
+    tell_bytes(system, Text::<ROOM>::of(what).as_bytes(), moved)
 }
 
 // The same of bytes that may be no text.

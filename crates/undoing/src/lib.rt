@@ -69,18 +69,10 @@ fn tell(system: &System, last: Last<'_>, register: Register<'_>) -> Result<Statu
     terminal::tell_bytes(system, out.as_bytes(), "register and journal")
 }
 
-// Whether the journal still has as many bytes as were read of it: a call that was kept meanwhile would be lost.
-fn check_size(system: &System, journal: &[u8], size: usize) -> Result<(), Trouble> {
-    match attributes::of(system, journal) {
-        Ok(Some(file)) if usize::try_from(file.size) == Ok(size) => Ok(()),
-        _ => {
-            Err(files::complain(
-                system,
-                journal,
-                "it was changed meanwhile: run the command again",
-            ))
-        }
-    }
+// How many bytes a file has; none where that cannot be known.
+fn size_of(system: &System, path: &[u8]) -> Option<usize> {
+    let file = attributes::of(system, path).ok()??;
+    usize::try_from(file.size).ok()
 }
 
 // The journal as it was read: its whole lines, and how many bytes it had.
@@ -129,7 +121,7 @@ fn take_back(
             return Err(trouble);
         }
     };
-    if let Err(trouble) = check_size(system, path, journal.size) {
+    if let Err(trouble) = files::check_size(system, path, size_of(system, path), journal.size) {
         new_journal.discard(system);
         new_register.discard(system);
         return Err(trouble);
@@ -186,6 +178,7 @@ impl Targets {
         register: &mut [u8],
         room: &'a mut [u8],
     ) -> Result<(Loaded<'a>, Standing<'a>), Trouble> {
+        // Kept: the length alone goes on: `ended` may put a line feed behind the text, into the room.
         let size = terminal::text(system, 4, room)?.len();
         // a start that was cut off leaves no register
         terminal::register_or_none(system, self.register.path(), register)?;

@@ -8,7 +8,7 @@ use std::fmt;
 use std::fmt::Display;
 use system::{Stream, System};
 use terminal::Status;
-use text::Text;
+use text::{Plural, Text};
 
 // Room for a message with a word in it.
 const ROOM: usize = 8192;
@@ -44,9 +44,7 @@ fn wrong(system: &System, command: Option<Command>, what: &[u8]) -> Trouble {
 
 // The same of words without one that was given.
 fn wrong_words(system: &System, command: Option<Command>, what: impl Display + Drop) -> Trouble {
-    let mut words = Text::<ROOM>::new();
-    words.say(what);
-    wrong(system, command, words.as_bytes())
+    wrong(system, command, Text::<ROOM>::of(what).as_bytes())
 }
 
 fn no_command(system: &System, word: &[u8]) -> Trouble {
@@ -116,8 +114,8 @@ fn missing(system: &System, command: Command, form: Form, n: usize) -> Trouble {
 // The last n words are too many, from this one on.
 fn too_many(system: &System, command: Command, n: usize, first: &[u8]) -> Trouble {
     let mut what = Text::<ROOM>::new();
-    let plural = if n == 1 { "" } else { "s" };
-    what.say(format_args!("{n} word{plural} too many, from "));
+    let s = Plural(text::narrowed(n));
+    what.say(format_args!("{n} word{s} too many, from "));
     what.put(first);
     what.say(" on");
     wrong(system, Some(command), what.as_bytes())
@@ -183,9 +181,7 @@ fn help_on(system: &System, i: usize) -> Result<(), Trouble> {
 // The command that the words name, where they are as it takes them; none where help or the version was asked for, which is said.
 pub fn first_words(system: &System) -> Result<Option<Command>, Trouble> {
     if system.argument_count() < 2 {
-        let mut help = Text::<ROOM>::new();
-        help.say(Help(None));
-        system.tell(help.as_bytes());
+        system.tell(Text::<ROOM>::of(Help(None)).as_bytes());
         return Err(Trouble);
     }
     if commands::has(system, Opt::Version) {
