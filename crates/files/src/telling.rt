@@ -40,6 +40,7 @@ pub fn note(system: &System, path: &[u8], what: impl Display + Drop) {
 }
 
 // An error. A command that changes files ends with it before it has changed one.
+// Kept: `usage::wrong_words` is alike, but tells another trouble; what both share is `Text::of`.
 pub fn complain(system: &System, path: &[u8], what: impl Display + Drop) -> Trouble {
     complain_bytes(system, path, Text::<WORDS>::of(what).as_bytes())
 }

@@ -125,6 +125,7 @@ pub fn whole(
 }
 
 // Fills the buffer from the file that word i names.
+// Kept: no part is answered, since a file that does not fill the buffer is trouble.
 pub fn file(system: &System, i: usize, buffer: &mut [u8]) -> Result<(), Trouble> {
     let path = commands::word(system, i);
     let found = files::load(system, path.as_bytes(), buffer)?.map(|file| file.len());

@@ -43,6 +43,7 @@ fn wrong(system: &System, command: Option<Command>, what: &[u8]) -> Trouble {
 }
 
 // The same of words without one that was given.
+// Kept: `files::complain` is alike, but tells another trouble; what both share is `Text::of`.
 fn wrong_words(system: &System, command: Option<Command>, what: impl Display + Drop) -> Trouble {
     wrong(system, command, Text::<ROOM>::of(what).as_bytes())
 }
