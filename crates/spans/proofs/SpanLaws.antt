@@ -4,12 +4,14 @@ use mathlib.Core.Path.{◌≡◌, refl, sym, ◌∙◌}
 use mathlib.Core.Bool.{cond}
 use mathlib.Core.List.{List, [], ◌∷◌}
 use Prim.Native.Nat.{ℕ, zero, suc, ◌+◌, ◌≤◌, ◌<◌, min, max}
-use native.Mathlib.Numerals.{add-one}
 use native.Mathlib.Omega.{arith}
-use lib.Dec.{eqb}
-use lib.ListN.{length, get_or, drop, drop_of_length-le}
-use lib.Seq.{drop-cons, ext_get_or}
-use borrow.Author.Tests.{eq-eqb, ne_eqb}
+use lib.Dec.{eqb, ltb}
+use lib.ListN.{length, get_or}
+use lib.Seq.{ext_get_or}
+use borrow.Author.Tests.{eq-eqb, ne_eqb, lt-ltb, le-ltb}
+use Rattle.std.specs.Prelude.{Option, Some, None, ◌==◌, position}
+use Rattle.std.specs.List.{position_or_len}
+use Rattle.base.proofs.Tests.{by_bool, by_le}
 use Rattle.base.specs.Lists.{least_of, greatest_of}
 use Rattle.base.proofs.ListLaws.{least_step}
 use Rattle.layout.specs.Register.{waiting_of}
@@ -37,16 +39,41 @@ module _ (f : ℕ → List ℕ) where
   pub filled : (l : List (List ℕ)) (i : ℕ) → 6 ≤ i → length l ≡ 6 → Filled l i → l ≡ six f
   filled l i h n e = ext_get_or [] l (six f) n (λ k u. e k (omega arith) ∙ sym (six-at k (omega arith)))
 
--- ---- a month's span among those of some months
-module _ (ms : List ℕ) (ss : List (List ℕ)) (m i : ℕ) where
-  pub span-step : i < length ms → i < length ss
-      → span_in (drop i ms) (drop i ss) m ≡ cond (eqb m (get_or ms i 0)) (get_or ss i []) (span_in (drop (i + 1) ms) (drop (i + 1) ss) m)
-  unfolding span_in
-  span-step h k = rw (drop-cons ms i 0 h, drop-cons ss i [] k, add-one)
+-- ---- a month's span among those of some months: it stands where the month does
+abbrev place : ℕ → List ℕ → ℕ
+place m ms = position_or_len (λ n. m == n) ms
 
-  pub span_none : length ms ≤ i → span_in (drop i ms) (drop i ss) m ≡ 0 ∷ 0 ∷ []
-  unfolding span_in
-  span_none h = rw (drop_of_length-le ms h)
+span_at : (m : ℕ) (ms : List ℕ) (ss : List (List ℕ)) → length ms ≤ length ss
+    → span_in ms ss m ≡ cond (ltb (place m ms) (length ms)) (get_or ss (place m ms) []) (0 ∷ 0 ∷ [])
+unfolding span_in
+span_at m [] ss h = refl
+span_at m (n ∷ ns) [] h = absurd (omega arith)
+span_at m (n ∷ ns) (s ∷ ss) h =
+    by_bool (eqb m n)
+    (λ e. rw (e, lt-ltb 0 (suc (length ns)) (omega arith)))
+    (λ e.
+    let f : 1 + place m ns ≡ suc (place m ns) = omega arith in
+    by_le (length ns) (place m ns)
+    (λ l. rw (e, f, span_at m ns ss (omega arith), le-ltb (place m ns) (length ns) l, le-ltb (suc (place m ns)) (suc (length ns)) (omega arith)))
+    (λ l. rw (e, f, span_at m ns ss (omega arith), lt-ltb (place m ns) (length ns) l, lt-ltb (suc (place m ns)) (suc (length ns)) (omega arith))))
+
+-- what a search for the month finds
+abbrev pub Finds : ℕ → List ℕ → List (List ℕ) → Option ℕ → Type 0
+Finds m ms ss (Some i) = get_or ss i [] ≡ span_in ms ss m
+Finds m ms ss None = (0 ∷ 0 ∷ []) ≡ span_in ms ss m
+
+pub finds : (m : ℕ) (ms : List ℕ) (ss : List (List ℕ)) → length ms ≤ length ss → (o : Option ℕ) → o ≡ position (λ n. m == n) ms → Finds m ms ss o
+finds m ms ss l None h =
+    by_bool (ltb (place m ms) (length ms))
+    (λ e. let z : None ≡ Some (place m ms) = rw e at h in absurd (cc))
+    (λ e. sym (span_at m ms ss l ∙ rw e))
+finds m ms ss l (Some i) h =
+    by_bool (ltb (place m ms) (length ms))
+    (λ e.
+    let z : Some i ≡ Some (place m ms) = rw e at h in
+    let q : i ≡ place m ms = cc in
+    rw q (sym (span_at m ms ss l ∙ rw e)))
+    (λ e. let z : Some i ≡ None = rw e at h in absurd (cc))
 
 -- ---- what waits
 -- the greatest is taken step by step from the front, as the least is

@@ -15,12 +15,10 @@ use layout::{MONTH, PLACE_LENGTH, PRICE};
 fn span_in(months: [u16; 6], spans: [[u16; 2]; 6], month: u16) -> [u16; 2]
     ensures { result ≡ span_in months spans month }
 {
-    for (i, live) in months.iter().enumerate() {
-        if month == *live {
-            return spans[i];
-        }
+    match months.iter().position(|live| month == *live) {
+        Some(i) => spans[i],
+        None => [0; 2],
     }
-    [0; 2]
 }
 
 // What the live months held on the session before, from the months and spans of that session.

@@ -1,24 +1,21 @@
--- `spans::span_in` meets its contract: what is left of the search is the search.
+-- `spans::span_in` meets its contract: where the search finds the month, its span stands.
 -- Assumes nothing.
-use Rattle.std.proofs.Common.{sym, ◌∙◌, rules}
-use borrow.Author.Tests.{eq-eqb, ne_eqb}
-use Rattle.spans.proofs.SpanLaws.{span-step, span_none}
+use Rattle.std.proofs.Common.{◌==◌, ◌≤◌, length, rules, tests}
+use Rattle.std.proofs.lemmas.Iterator.{YieldsList-from_slice}
+use Rattle.std.proofs.lemmas.Iterator.Search.{position_from_yields_List}
+use Rattle.spans.proofs.SpanLaws.{Finds, finds}
+use Rattle.spans.proofs.span_in.Goals.{After-position}
 use Rattle.spans.proofs.span_in.Goals as goal
 
-pub returns-then-month-live : goal.returns-then-month-live
-returns-then-month-live c =
+found : (c : After-position) → Finds c.args.month c.args.months c.args.spans c.position.result
+found c =
     let a = c.args in
-    let l = c.loop-i in
-    sym (l.invariant ∙ span-step a.months a.spans a.month l.i (search rules) (search rules) ∙ rw (eq-eqb _ _ c.if-month-live.true))
+    let six : length a.months ≤ length a.spans = search rules in
+    finds a.month a.months a.spans six c.position.result
+    (position_from_yields_List (λ n. a.month == n) _ _ c.position.result c.position.ensures.ran (YieldsList-from_slice a.months cc) (λ x b q k. search (rules, tests)))
 
-pub loop-i-preserved : goal.loop-i-preserved
-loop-i-preserved c =
-    let a = c.args in
-    let l = c.loop-i in
-    l.invariant ∙ span-step a.months a.spans a.month l.i (search rules) (search rules) ∙ rw (ne_eqb _ _ c.if-month-live.false)
+pub returns-in-Some : goal.returns-in-Some
+returns-in-Some c = rw c.in-Some.is at (found (goal.at.returns-in-Some c).After-position)
 
-pub returns : goal.returns
-returns c =
-    let a = c.args in
-    let l = c.loop-i in
-    sym (l.invariant ∙ span_none a.months a.spans a.month l.i (search rules))
+pub returns-in-None : goal.returns-in-None
+returns-in-None c = rw c.in-None.is at (found (goal.at.returns-in-None c).After-position)
