@@ -37,12 +37,14 @@ fn is_empty(register: &[u8]) -> bool
 }
 
 // Makes the calls one after the other and keeps their numbers.
+// Kept: `numbers` beside `calls`, and numbers for causes: a journal keeps them, and with no heap the caller has the room for them.
 fn run(calendar: &[u8], calls: &[Call], register: &mut [u8], numbers: &mut [u16])
     requires { length numbers.old ≡ length calls.now }
     ensures register_after { register.new ≡ final_at (rules calendar.now) calls.now register.old }
     ensures numbers_after { numbers.new ≡ numbers_at (rules calendar.now) calls.now register.old }
 {
     for (i, call) in calls.iter().enumerate() {
+        // Kept: the match. For `.err().map_or(0, |cause| cause.number())` the proof of this loop, which cites the two arms, did not close.
         numbers[i] = match calling::make(calendar, register, *call) {
             Ok(_) => 0,
             Err(cause) => cause.number(),
