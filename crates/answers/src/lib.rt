@@ -11,6 +11,7 @@ use files::Trouble;
 use holidays::Fault;
 use inquiry::Why;
 use names::{Kind, Named};
+use phrases::KindName;
 use picture::Picture;
 use reading::Register;
 use report::{Glance, MonthRows};
@@ -172,11 +173,7 @@ fn read_name(system: &System) -> Result<Status, Trouble> {
     match names::read(commands::word(system, 2).as_bytes()) {
         Ok(Named { month, kind, price }) => {
             let month = Month(u32::from(month));
-            // Kept: Display of a kind would be in `names` for this place alone: `report` pads the word, a name has a letter.
-            let kind = match kind {
-                Kind::Call => "call",
-                Kind::Put => "put",
-            };
+            let kind = KindName(kind);
             answer(system, format_args!("{month} {kind} {price}\n"))
         }
         Err(cause) => terminal::refuse(system, NameRefusal(cause)),

@@ -100,7 +100,7 @@ pub fn destination(system: &System, path: &[u8]) -> Result<Option<Attributes>, T
 }
 
 // Whether two files that were looked for are one.
-// Kept: no PartialEq, here and below: that asks no system, tells no trouble, and would call two of nothing, or two names, equal that are not.
+// Kept: no PartialEq, here and below: that asks no system, tells no trouble, and would take two files that are missing for one.
 fn is_one(a: Option<Attributes>, b: Option<Attributes>) -> bool {
     match (a, b) {
         (Some(a), Some(b)) => a.is_of_same_file(&b),

@@ -79,7 +79,7 @@ impl<'a> Way<'a> {
     pub fn between(given: Register<'a>, register: Register<'a>, is_passed: bool) -> Way<'a> {
         let ends = given.day();
         let stands = register.day();
-        if given.status() == 0 {
+        if given.is_empty() {
             Way::Unstarted
         } else if lacks_announcements(given, register) {
             let had = given.waiting();
@@ -87,7 +87,7 @@ impl<'a> Way<'a> {
         } else if ends < stands && given.rows().all(|row| keeps_row(register, row)) {
             let next = given.next_session();
             Way::Sessions { ends, stands, next }
-        } else if register.status() == 0 {
+        } else if register.is_empty() {
             Way::Empty { ends }
         } else if is_passed {
             Way::Passed { ends, stands }
