@@ -1,5 +1,5 @@
 // The C interface: exports alone, each a total function over plain slices and numbers. include/sindhopul.h declares them.
-// Kept: the exports are alike by nature. C links each by its name, and each makes a struct of a Result.
+// Kept: the exports are alike by nature. C links each by its name, and each hands on one call, its Result made a struct or a number.
 #![tactic(auto)]
 
 ghost use Rattle.std.specs.Prelude.{◌≡◌};

@@ -53,7 +53,7 @@ pub fn count(system: &System) -> usize {
 }
 
 // Word i; empty where there is none, or where it does not fit.
-// Kept: no Option: an empty word must name nothing too, so whoever asks tests for empty anyway.
+// Kept: no Option: `usage` has tested that the words are there, and whoever asks would make an empty path of a None.
 pub fn word(system: &System, i: usize) -> Text<PATH_MAX> {
     let at = (0..system.argument_count())
         .filter(|&at| is_word(system, at))

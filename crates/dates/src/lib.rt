@@ -5,9 +5,9 @@ ghost use Rattle.std.specs.Prelude.{◌≡◌, ◌<◌, ◌≤◌};
 ghost use Rattle.dates.specs.Months.{month_count, day_count, first_day, third_friday, month_of, ThirdFridays};
 
 // Months 0 to 1,199, days 0 to 36,524.
-// Kept: days and months are numbers, no types of their own: a narrower parameter asks more of callers, and `lookup` has the questions that take any number.
 pub const MONTHS: u16 = 1200;
 
+// Kept: no type of a day: four functions ask that it is below DAYS; callers have that from a comparison, and would take the number out again.
 pub const DAYS: u16 = 36525;
 
 // The third Fridays of all 1,200 months.

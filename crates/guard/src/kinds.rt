@@ -10,7 +10,7 @@ use lines::Words;
 use system::System;
 
 // What has a name.
-// Kept: an Option of an Option says the same two kinds of none without their names, and both are asked for.
+// Kept: an Option of an Option says the same two kinds of none without their names, and a file that is written is refused for one of them alone.
 #[derive(Clone, Copy, PartialEq, Eq, Debug)]
 pub enum Found {
     // Nothing, or no regular file.

@@ -1,21 +1,21 @@
--- A day that is given a session has it, and every other day keeps what it had.
+-- A day that is given a session has it, one whose session is taken away has none, and every other day keeps what it had.
 -- Assumes nothing.
 use mathlib.Core.Path.{◌≡◌, refl, sym, ap, ◌∙◌}
-use mathlib.Core.Bool.{Bool, true, false, cond, ◌&&◌, ◌||◌}
+use mathlib.Core.Bool.{Bool, true, false, cond, not, ◌&&◌, ◌||◌}
 use mathlib.Core.List.{List}
-use Prim.Native.Nat.{ℕ, zero, suc, ◌+◌, ◌*◌, ◌/◌, ◌%◌, ◌^◌, ◌≤◌, ◌<◌, max}
+use Prim.Native.Nat.{ℕ, zero, suc, ◌+◌, ◌-◌, ◌*◌, ◌/◌, ◌%◌, ◌^◌, ◌≤◌, ◌<◌, max, min}
 use native.Mathlib.Nat.{zero-div}
 use native.Mathlib.Omega.{arith}
-use lib.Bits.{bit_or, or_step}
+use lib.Bits.{bit_and, bit_or, and_step, or_step}
 use lib.Dec.{T, eqb, ltb, eqb→eq}
 use lib.ListN.{length, get_or, replicate}
 use lib.Pow.{shr-shr}
 use lib.Seq.{get_or-set_same, get_or-set_other}
 use borrow.Author.Tests.{eq-eqb, ne_eqb, eqb-true, eqb-false, lt-ltb, le-ltb}
 use Rattle.base.proofs.Tests.{by_bool, by_le, and_no}
-use Rattle.base.proofs.Table.{at}
+use Rattle.base.proofs.Table.{both, both_left, both_right, at}
 use Rattle.calendar.specs.Calendar.{session}
-use Rattle.holidays.specs.Sessions.{weekday, with_session}
+use Rattle.holidays.specs.Sessions.{weekday, with_session, without_session}
 
 -- ---- bits of the operations
 half : (n j : ℕ) → n / 2 ^ suc j ≡ n / 2 / 2 ^ j
@@ -27,12 +27,21 @@ or_bit (suc j) a b =
     let e : bit_or a b / 2 ≡ bit_or (a / 2) (b / 2) = omega (arith, or_step a b) in
     rw (half (bit_or a b) j, half a j, half b j, e) (or_bit j (a / 2) (b / 2))
 
--- ---- bit j of the weight 2 ^ k, for all 64 pairs at once
+and_bit : (j a b : ℕ) → bit_and a b / 2 ^ j % 2 ≡ min (a / 2 ^ j % 2) (b / 2 ^ j % 2)
+and_bit zero a b = omega (arith, and_step a b)
+and_bit (suc j) a b =
+    let e : bit_and a b / 2 ≡ bit_and (a / 2) (b / 2) = omega (arith, and_step a b) in
+    rw (half (bit_and a b) j, half a j, half b j, e) (and_bit j (a / 2) (b / 2))
+
+-- ---- bit j of the weight 2 ^ k and of what is left of 255 without it, for all 64 pairs at once
 abbrev weight_right : ℕ → ℕ → Bool
 weight_right k j = eqb (2 ^ k / 2 ^ j % 2) (cond (eqb j k) 1 0)
 
+abbrev mask_right : ℕ → ℕ → Bool
+mask_right k j = eqb ((255 - 2 ^ k) / 2 ^ j % 2) (cond (eqb j k) 0 1)
+
 abbrev right : ℕ → ℕ → Bool
-right i x = weight_right (i / 8) (i % 8)
+right i x = both (weight_right (i / 8) (i % 8)) (mask_right (i / 8) (i % 8))
 
 module _ (k j : ℕ) (kl : k < 8) (jl : j < 8) where
   pair : T (right (8 * k + j) 0)
@@ -42,12 +51,23 @@ module _ (k j : ℕ) (kl : k < 8) (jl : j < 8) where
   place P h = let r : (8 * k + j) / 8 ≡ k = omega arith in let c : (8 * k + j) % 8 ≡ j = omega arith in rw (r, c) at h
 
   weight_bit : 2 ^ k / 2 ^ j % 2 ≡ cond (eqb j k) 1 0
-  weight_bit = eqb→eq _ _ (place (λ (a b : ℕ). T (weight_right a b)) pair)
+  weight_bit =
+      let i : ℕ = 8 * k + j in
+      eqb→eq _ _ (place (λ (a b : ℕ). T (weight_right a b)) (both_left (weight_right (i / 8) (i % 8)) (mask_right (i / 8) (i % 8)) pair))
 
--- ---- a bit set, as a test
+  mask_bit : (255 - 2 ^ k) / 2 ^ j % 2 ≡ cond (eqb j k) 0 1
+  mask_bit =
+      let i : ℕ = 8 * k + j in
+      eqb→eq _ _ (place (λ (a b : ℕ). T (mask_right a b)) (both_right (weight_right (i / 8) (i % 8)) _ pair))
+
+-- ---- a bit set or cleared, as a test
 set_test : (e : Bool) (x : ℕ) → x < 2 → eqb (max x (cond e 1 0)) 1 ≡ (e || eqb x 1)
 set_test true x h = eq-eqb (max x 1) 1 (omega arith)
 set_test false x h = let m : max x 0 ≡ x = omega arith in ap (λ (y : ℕ). eqb y 1) m
+
+clear_test : (e : Bool) (x : ℕ) → x < 2 → eqb (min x (cond e 0 1)) 1 ≡ (not e && eqb x 1)
+clear_test true x h = ne_eqb (min x 0) 1 (λ z. omega arith)
+clear_test false x h = let m : min x 1 ≡ x = omega arith in ap (λ (y : ℕ). eqb y 1) m
 
 -- ---- days
 module _ (cal : List ℕ) (day n : ℕ) (inside : day / 8 < length cal) where
@@ -76,6 +96,23 @@ module _ (cal : List ℕ) (day n : ℕ) (inside : day / 8 < length cal) where
 
       there : (n / 8 ≡ day / 8 → ⊥) → session (with_session cal day) n ≡ (eqb n day || session cal n)
       there h = rw (get_or-set_other cal (day / 8) (n / 8) (bit_or (get_or cal (day / 8) 0) (2 ^ (day % 8))) 0 h, other-day h)
+
+  pub unset-session : session (without_session cal day) n ≡ (not (eqb n day) && session cal n)
+  unfolding session without_session
+  unset-session = by_bool (eqb (n / 8) (day / 8)) (λ t. here (eqb-true _ _ t)) (λ f. there (eqb-false _ _ f))
+    where
+      b : ℕ
+      b = get_or cal (day / 8) 0
+
+      here : n / 8 ≡ day / 8 → session (without_session cal day) n ≡ (not (eqb n day) && session cal n)
+      here e =
+          let byte = get_or-set_same cal (day / 8) (bit_and b (255 - 2 ^ (day % 8))) 0 inside in
+          let bit = mask_bit (day % 8) (n % 8) (omega arith) (omega arith) in
+          rw (e, byte, and_bit (n % 8) b (255 - 2 ^ (day % 8)), bit, same-day e)
+          (clear_test (eqb n day) (b / 2 ^ (n % 8) % 2) (omega arith))
+
+      there : (n / 8 ≡ day / 8 → ⊥) → session (without_session cal day) n ≡ (not (eqb n day) && session cal n)
+      there h = rw (get_or-set_other cal (day / 8) (n / 8) (bit_and (get_or cal (day / 8) 0) (255 - 2 ^ (day % 8))) 0 h, other-day h)
 
 -- ---- the weekdays given their sessions one after the other
 pub none_yet : (k n : ℕ) → session (replicate k 0) n ≡ (ltb n 0 && weekday n)

@@ -101,7 +101,7 @@ pub fn call_in(line: &[u8]) -> Result<Option<Call>, Reason> {
     }
 }
 
-// Kept: list and count stand apart here and in `read`: the caller takes as many numbers as calls, and would ask a slice for its length.
+// Kept: list and count stand apart here and in `read`: the slice of the calls taken would keep the list lent, which the next line writes into.
 // Takes a line's call behind the `count` that are taken, and answers how many there are then.
 fn take(line: &[u8], calls: &mut [Call], count: usize) -> Result<usize, Reason>
     requires { count ≤ length calls.old }

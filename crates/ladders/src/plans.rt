@@ -7,7 +7,7 @@ use grid::Strikes;
 use layout::Origin;
 
 // A day, its live months, and of each month its span before, that span as the close alone widens it, and its span of the day.
-// Kept: six pairs, zeros for a month that held none. As Options of `Strikes` they would be made by five `map`s in relisting, for three calls in `plan`.
+// Kept: six pairs, zeros for a month that held none. As Options of `Strikes` they would be made by four `map`s in relisting, to save three calls in `plan`.
 #[derive(Drop)]
 pub struct Plans {
     // The first day of a row that is added.

@@ -26,7 +26,7 @@ use relisting::Listing;
 use rules::LiveMonths;
 
 // What is listed on a day; causes 20 and 21.
-// Kept: the facts of this file on a day: see `dates::DAYS`.
+// Kept: the facts of this file on a day: see `dates::DAYS`, and on a register's day `register::next_first`.
 fn listing_on<'a>(calendar: Calendar<'a>, day: u16, close: u32) -> Result<Listing<'a>, Cause>
     requires { day < day_count }
     ensures cause { number_in result ≡ listing_cause (first_live (expiry_of calendar.entry.bytes.now) day) close }

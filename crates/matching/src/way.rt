@@ -57,7 +57,7 @@ fn lacks_announcements(given: Register<'_>, register: Register<'_>) -> bool {
         return false;
     };
     let had = given.waiting();
-    // Kept: usize has no From of a u32; tried: `count`, a usize, does not prove, since no clause bounds the announcements.
+    // Kept: usize has no From of a u32, and `waiting` is told as the numbers of 32 bits are.
     for waits in register.announcements().skip(had as usize) {
         let call = Call::Announce(waits.month, waits.price);
         let _ = calling::make(given.calendar, &mut copy, call);

@@ -80,7 +80,7 @@ impl<'a> Register<'a> {
     }
 
     // How many announcements wait.
-    // Kept: `day`, `waiting` and `row_count` share only `byte` and `word`, which are that one function.
+    // Kept: `day`, `waiting` and `row_count` are each one call of `byte` or `word`, which have what they share.
     pub fn waiting(self) -> u32 {
         u32::from(self.byte(WAITING))
     }

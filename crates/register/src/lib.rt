@@ -25,7 +25,6 @@ use layout::{
 use rules::LiveMonths;
 
 // Whether the bytes that are neither announcement nor row keep the layout of a running register.
-// Kept: the facts of this file on a register's day: in `Running` it would be said a second time, beside the register's bytes.
 fn keeps_layout(register: &[u8; REGISTER_LENGTH]) -> bool
     ensures { Tells result (Keeps register.now) }
 {
@@ -42,7 +41,7 @@ fn keeps_layout(register: &[u8; REGISTER_LENGTH]) -> bool
 
 // The first live month of the next session; 1,200 where there is none.
 // Kept: the facts of this file on a register's day. The bytes hold it; a type of bytes and day would hold it twice, for two functions that ask.
-// Kept: no Option, since the rules count 1,200 there, and the one who asks takes it as too late like any month behind March 2099.
+// Kept: no Option, since the rules count 1,200 there, and both who ask hand it to `refusal`, to which it is too late like any month behind March 2099.
 pub fn next_first(calendar: Calendar<'_>, register: &[u8; REGISTER_LENGTH]) -> u16
     requires { (moment_of register.now).day < day_count }
     ensures { result ≡ first_at calendar.entry.bytes.now (next (rules calendar.entry.bytes.now) (moment_of register.now)) }

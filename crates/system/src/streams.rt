@@ -40,7 +40,7 @@ impl System {
     }
 
     // Puts what one read gives at the start of the buffer, and answers how many bytes.
-    // Kept: the count, as std's read answers it: read_full goes on behind so many bytes, and ends since these are in the room.
+    // Kept: the count, as std's read answers it: read_full goes on behind so many bytes, whose end is proved from `n ≤ length`.
     pub fn read_once(&self, from: Source<'_>, buffer: &mut [u8]) -> Result<usize, Error>
         ensures { IfOk result (λ n. n ≤ length buffer.new) }
     {
