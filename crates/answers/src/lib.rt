@@ -23,8 +23,11 @@ use terminal::{Meaning, Status};
 use text::{Month, Text};
 use wording::{CalendarRefusal, NameRefusal, OpeningRefusal, RowsRefusal};
 
-// Room for a calendar that is looked at: one that is too long is refused as such.
+// Room for a calendar that is looked at: one that is too long is refused as such. Nor are the rooms below on another command's stack.
 const ROOM: usize = 65536;
+
+// Room for a line. That of terminal::tell would stand on top of the list's and the calendar's.
+const LINE: usize = 128;
 
 // That a calendar is accepted, and how many sessions it has.
 #[derive(Clone, Copy)]
@@ -48,6 +51,7 @@ fn answer(system: &System, what: impl Display + Drop) -> Result<Status, Trouble>
     terminal::say(system, Stream::Output, what, Status::Done)
 }
 
+#[inline(never)]
 pub fn check(system: &System) -> Result<Status, Trouble> {
     let mut room = space::zeros::<ROOM>();
     let calendar = terminal::text(system, 2, &mut room)?;
@@ -82,9 +86,12 @@ fn make_of(system: &System, list: &[u8]) -> Result<Status, Trouble> {
         return terminal::refuse(system, CalendarRefusal { calendar, cause });
     }
     terminal::replace(system, 3, calendar)?;
-    terminal::tell(system, Accepted(calendar), "the calendar")
+    let mut out = Text::<LINE>::new();
+    out.say(Accepted(calendar));
+    terminal::tell_bytes(system, out.as_bytes(), "the calendar")
 }
 
+#[inline(never)]
 pub fn make_calendar(system: &System) -> Result<Status, Trouble> {
     let mut room = space::zeros::<LIST_LENGTH>();
     let list = terminal::text(system, 2, &mut room)?;
@@ -92,6 +99,7 @@ pub fn make_calendar(system: &System) -> Result<Status, Trouble> {
 }
 
 // The rows of the six live months, in their order.
+#[inline(never)]
 fn all_rows(system: &System, register: Register<'_>) -> Result<Status, Trouble> {
     let mut out = Text::<OUTPUT_LENGTH>::new();
     for month in register.live_months() {
@@ -122,6 +130,7 @@ pub fn show(system: &System, register: Register<'_>) -> Result<Status, Trouble>
 }
 
 // The six ladders drawn.
+#[inline(never)]
 pub fn picture(system: &System, register: Register<'_>) -> Result<Status, Trouble>
     ensures { IfOk result (λ end. end ≡ Done) }
 {
@@ -206,6 +215,7 @@ fn write_name(system: &System) -> Result<Status, Trouble> {
     }
 }
 
+#[inline(never)]
 pub fn name(system: &System) -> Result<Status, Trouble> {
     if commands::count(system) == 3 {
         read_name(system)

@@ -143,6 +143,7 @@ impl<'a> Booking<'a> {
     }
 
     // Tells what the session would answer, and each row that it would add.
+    #[inline(never)]
     fn foresee(self, system: &System, answer: Answer) -> Result<Status, Trouble> {
         let mut out = Text::<OUTPUT_LENGTH>::new();
         let outcome = self.outcome(answer);

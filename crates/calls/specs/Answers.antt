@@ -1,7 +1,7 @@
 -- Document 01, "Calls" and "Causes and what they yield": start, session and announce on the register's bytes, for every calendar,
 -- register and argument.
 -- Assumes nothing.
-use Rattle.std.specs.Prelude.{Bool, cond, not, List, [], ◌∷◌, ℕ, suc, eqb, length}
+use Rattle.std.specs.Prelude.{Bool, cond, not, List, [], ◌∷◌, ℕ, suc, Option, Some, None, eqb, length}
 use Rattle.base.specs.Lists.{elem}
 use Rattle.rules.specs.Rules.{Rules}
 use Rattle.calls.specs.declared.Call.{Call}
@@ -84,3 +84,13 @@ unfoldable pub answer_at : List ℕ → Call → List ℕ → Answered
 answer_at calendar (Start d c) bs = of_listed (listed_at calendar (Start d c) bs)
 answer_at calendar (Session d c) bs = of_listed (listed_at calendar (Session d c) bs)
 answer_at calendar (Announce m p) bs = of_told (announced_at calendar (Announce m p) bs)
+
+-- ---- what a kind and its pairs answer and leave (`call_of`): where they are no call, there is no answer and the register stays
+
+unfoldable pub called_at : List ℕ → Option Call → List ℕ → Option Answered
+called_at calendar None bs = None
+called_at calendar (Some k) bs = Some (answer_at calendar k bs)
+
+unfoldable pub after_called : Rules → Option Call → List ℕ → List ℕ
+after_called R None bs = bs
+after_called R (Some k) bs = after_at R k bs

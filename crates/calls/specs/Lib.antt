@@ -1,3 +1,4 @@
+pub mod Calls
 pub mod Listing
 pub mod Results
 pub mod Answers

@@ -7,6 +7,19 @@ ghost use Rattle.calls.specs.Results.{listed_of, told_of, place_of};
 
 use base::Cause;
 
+// The kinds of calls, where a call is named by plain numbers, and how many they are: a number from `KINDS` on is none.
+// Kept: `calling` takes any number for a kind and tells which are none, so the numbers have names.
+pub const START: u8 = 0;
+
+// Kept: as START.
+pub const SESSION: u8 = 1;
+
+// Kept: as START.
+pub const ANNOUNCE: u8 = 2;
+
+// Kept: as START.
+pub const KINDS: u8 = 3;
+
 // A call that changes a register: day and close, or month and price.
 #[derive(Clone, Copy, PartialEq, Eq, Debug)]
 pub enum Call {

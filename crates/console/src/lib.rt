@@ -24,6 +24,8 @@ fn register(system: &System) -> Result<[u8; REGISTER_LENGTH], Trouble> {
     load(system, 3)
 }
 
+// The files of this, of `ask` and of `with_journal` are no part of the stack of the other commands.
+#[inline(never)]
 fn preview(system: &System) -> Result<Status, Trouble> {
     let calendar = calendar(system)?;
     let bytes = register(system)?;
@@ -36,6 +38,7 @@ fn preview(system: &System) -> Result<Status, Trouble> {
     )
 }
 
+#[inline(never)]
 fn ask<F: FnOnce(&System, Register<'_>) -> Result<Status, Trouble>>(
     system: &System,
     answer: F,
@@ -54,6 +57,21 @@ fn ask<F: FnOnce(&System, Register<'_>) -> Result<Status, Trouble>>(
     )
 }
 
+// A command on a calendar, with room for the text of a journal.
+#[inline(never)]
+fn with_journal<F: FnOnce(&System, &[u8], &mut [u8]) -> Result<Status, Trouble>>(
+    system: &System,
+    room: &mut [u8],
+    command: F,
+) -> Result<Status, Trouble>
+    requires { F.IsAlwaysCallable command }
+{
+    let calendar = calendar(system)?;
+    command(system, &calendar, room)
+}
+
+// What commands read and write is no part of the stack of help and bad use.
+#[inline(never)]
 fn act(system: &System, command: Command, room: &mut [u8]) -> Result<Status, Trouble> {
     guard::check(system, command)?;
     // Kept: the one match over the commands, each with what it reads; a table of functions would want one signature for all.
@@ -62,12 +80,12 @@ fn act(system: &System, command: Command, room: &mut [u8]) -> Result<Status, Tro
         Command::Check => answers::check(system),
         Command::Name => answers::name(system),
         Command::Series => filing::read(system, room),
-        Command::Start => booking::start(system, &calendar(system)?, room),
-        Command::Session => booking::session(system, &calendar(system)?, room),
-        Command::Announce => booking::announce(system, &calendar(system)?, room),
-        Command::Replay => restoring::replay(system, &calendar(system)?, room),
-        Command::Audit => restoring::audit(system, &calendar(system)?, room),
-        Command::Undo => undoing::undo(system, &calendar(system)?, room),
+        Command::Start => with_journal(system, room, booking::start),
+        Command::Session => with_journal(system, room, booking::session),
+        Command::Announce => with_journal(system, room, booking::announce),
+        Command::Replay => with_journal(system, room, restoring::replay),
+        Command::Audit => with_journal(system, room, restoring::audit),
+        Command::Undo => with_journal(system, room, undoing::undo),
         Command::File => filing::write(system, &calendar(system)?),
         Command::Preview => preview(system),
         Command::Rows => ask(system, answers::rows),

@@ -34,15 +34,22 @@ fn note_bytes(system: &System, path: &[u8], what: &[u8]) {
     system.tell(b"\n");
 }
 
-// For what is no error, or where something was changed.
+// For what is no error, or where something was changed. The room of this and of `complain` is no part of their callers' stacks.
+#[inline(never)]
 pub fn note(system: &System, path: &[u8], what: impl Display + Drop) {
-    note_bytes(system, path, Text::<WORDS>::of(what).as_bytes());
+    let mut words = Text::<WORDS>::new();
+    words.say(what);
+    note_bytes(system, path, words.as_bytes());
 }
 
 // An error. A command that changes files ends with it before it has changed one.
-// Kept: `usage::wrong_words` is alike, but tells another trouble; what both share is `Text::of`.
+// Kept: `usage::wrong_words` is alike, but tells another trouble. A large room is filled where it stands: `Text::of` hands it back by value.
+#[cold]
+#[inline(never)]
 pub fn complain(system: &System, path: &[u8], what: impl Display + Drop) -> Trouble {
-    complain_bytes(system, path, Text::<WORDS>::of(what).as_bytes())
+    let mut words = Text::<WORDS>::new();
+    words.say(what);
+    complain_bytes(system, path, words.as_bytes())
 }
 
 // The same with bytes that may be no text, as a name or a line of a file that were put among the words.

@@ -55,6 +55,7 @@ fn write_new(system: &System, new: NewFile<'_>, calendar: &[u8]) -> Result<Statu
 
 // file: the register's new series, written to the file of word 4. The new file is made before the register is read, so that a
 // session which writes the same file is not overtaken by an older one.
+#[inline(never)]
 pub fn write(system: &System, calendar: &[u8]) -> Result<Status, Trouble> {
     let target = Target::new(system, terminal::followed(system, 4)?)?;
     let new = target.lock(system, None)?;
@@ -77,6 +78,7 @@ fn tell_series(system: &System, file: &[u8], filed: Filed) -> Result<Status, Tro
 }
 
 // series: what the file of word 2 says. `room` is for its bytes.
+#[inline(never)]
 pub fn read(system: &System, room: &mut [u8]) -> Result<Status, Trouble> {
     let file = terminal::text(system, 2, room)?;
     match parsing::check(file) {

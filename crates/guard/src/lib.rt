@@ -80,6 +80,7 @@ fn check_file(system: &System, command: Command, slot: Slot, given: Given) -> Re
 }
 
 // That all files of the command may be used as it wants to.
+#[inline(never)]
 pub fn check(system: &System, command: Command) -> Result<(), Trouble> {
     for slot in SLOTS {
         if let Some(given) = slot.given(system, command) {

@@ -10,7 +10,7 @@ use system::{PATH_MAX, System};
 use text::Text;
 
 // How a journal is for a call that is to be kept in it.
-#[derive(Drop)]
+#[derive(Clone, Copy)]
 pub enum Kept {
     // No line is kept: no journal is asked for, or the call is refused for its files.
     Unasked,
@@ -21,9 +21,8 @@ pub enum Kept {
 }
 
 // Where a line goes: behind the whole lines of a journal, or behind a line feed that the last one lacks.
-#[derive(Drop)]
+#[derive(Clone, Copy)]
 pub struct Place {
-    journal: Text<PATH_MAX>,
     read: Extent,
     lacks_feed: bool,
 }
@@ -42,7 +41,7 @@ struct Loaded<'a> {
 impl Loaded<'_> {
     // Where a line goes that is put behind it.
     fn place(self) -> Place {
-        let Loaded { name, text, size } = self;
+        let Loaded { text, size, .. } = self;
         let lacks_feed = size < text.len();
         let whole = if lacks_feed {
             size
@@ -50,7 +49,6 @@ impl Loaded<'_> {
             journal::whole(text).len()
         };
         Place {
-            journal: name,
             read: Extent { whole, size },
             lacks_feed,
         }
@@ -132,16 +130,15 @@ impl Kept {
         let Kept::Behind(place) = self else {
             return Ok(());
         };
+        // `look` found the name, so there is one.
+        let Some(journal) = commands::value(system, Opt::Journal) else {
+            return Ok(());
+        };
         let mut line = Text::<LINE>::new();
         if place.lacks_feed {
             line.put(b"\n");
         }
         line.say(entry);
-        files::keep_line(
-            system,
-            place.journal.as_bytes(),
-            place.read,
-            line.as_bytes(),
-        )
+        files::keep_line(system, journal.as_bytes(), place.read, line.as_bytes())
     }
 }

@@ -17,7 +17,6 @@ use Rattle.base.proofs.ListLaws.{elem-here, elem_there}
 use Rattle.base.proofs.Rising.{rises, rises_tail, rises-all, rises_all}
 use Rattle.rules.proofs.Laws.{total}
 use Rattle.layout.specs.Rows.{Entry, new_entry, Row, row, ladder, rows_of, find}
-use Rattle.layout.specs.Origins.{origin_code}
 use Rattle.layout.proofs.RowLaws.{find-rows_of, ladder_same, rows_of_same}
 use Rattle.ladders.specs.declared.Plan.{Plan}
 use Rattle.ladders.specs.Writing.{prices_in, added_origin, is_next, ladder_by, left_by, ladders_from, count_from}
@@ -43,7 +42,7 @@ In xs ys = (x : ℕ) → elem x xs ≡ true → elem x ys ≡ true
 -- ---- one month
 module _ (m : Plan) where
   abbrev pub added : ℕ → Entry
-  added p = new_entry m.day (origin_code (added_origin m p))
+  added p = new_entry m.day (added_origin m p)
 
   -- rows among which there is none of the month
   abbrev pub NoneOf : List Row → Type 0

@@ -17,7 +17,6 @@ use Rattle.layout.specs.Rows.{Row}
 use Rattle.base.specs.Words.{at16}
 use Rattle.grid.proofs.Runs.{band-kept}
 use Rattle.ladders.specs.declared.Plan.{Plan}
-use Rattle.layout.specs.Origins.{origin_code}
 use Rattle.grid.specs.declared.Strikes.{Strikes}
 use Rattle.ladders.specs.Writing.{added_origin, is_next, next_price, Alike, Ends}
 use Rattle.ladders.proofs.OldRows.{entered-next, entered_new}
@@ -103,7 +102,7 @@ module _ (m : Plan) where
 
     -- added rows up to the next change
     pub new_alike : (rs : List Row) (end : ℕ) → is_next m p rs ≡ false → Ends m (next_price m rs) (band_end p) p end
-        → Alike m rs p (record { end = end; step = step; first = m.day; origin = origin_code (added_origin m p) }) rs
+        → Alike m rs p (record { end = end; step = step; first = m.day; origin = added_origin m p }) rs
     new_alike rs end h e = record {
       here = entered_new m p rs h;
       step = s;

@@ -1,7 +1,7 @@
 -- How ladders are written: at each price of a month's ladder the old row, where it is the next one, else a new row. Contracts of leaves
 -- cite this file.
 -- Assumes nothing.
-use Rattle.std.specs.Prelude.{◌≡◌, Bool, true, false, cond, ◌&&◌, Option, Some, None, List, [], ◌∷◌, ◌++◌, ℕ, zero, suc, ◌+◌, ◌*◌, ◌≤◌, ◌<◌, eqb, length, get_or}
+use Rattle.std.specs.Prelude.{◌≡◌, Bool, true, false, cond, ◌&&◌, Option, Some, None, List, [], ◌∷◌, ◌++◌, ℕ, zero, suc, ◌+◌, ◌*◌, ◌/◌, ◌≤◌, ◌<◌, eqb, length, get_or}
 use Rattle.base.specs.Lists.{elem, select, within}
 use Rattle.dates.specs.Months.{month_count}
 use Rattle.calendar.specs.Live.{tier_of}
@@ -10,12 +10,13 @@ use Rattle.grid.specs.Numbers.{stride, band_step}
 use Rattle.grid.specs.declared.Strikes.{Strikes}
 use Rattle.layout.specs.Rows.{Entry, new_entry, Row, row}
 use Rattle.base.specs.Words.{two}
-use Rattle.layout.specs.Bytes.{most_rows}
-use Rattle.layout.specs.Origins.{origin_code}
-use Rattle.layout.specs.declared.Origin.{Origin}
-use Rattle.layout.specs.declared.Origin.TheVariants.{Within, Close, Announced}
+use Rattle.layout.specs.Bytes.{most_rows, read_rows}
 use Rattle.ladders.specs.declared.Plan.{Plan}
 use Rattle.ladders.specs.declared.Stretch.{Stretch}
+
+-- the rows in some bytes
+unfoldable pub rows_in : List ℕ → List Row
+rows_in bs = read_rows (length bs / 8) bs
 
 -- a row's eight bytes
 unfoldable pub row_bytes : ℕ → ℕ → ℕ → ℕ → List ℕ
@@ -28,12 +29,12 @@ unfoldable pub prices_in : Plan → List ℕ
 prices_in m = select (within m.span.low m.span.high) (grid_of m.tier)
 
 -- the origin of a row at a price beside the span that its month held, where it held one
-abbrev pub origin_beside : Origin → Strikes → Option Strikes → ℕ → Origin
+abbrev pub origin_beside : ℕ → Strikes → Option Strikes → ℕ → ℕ
 origin_beside origin wide None p = origin
-origin_beside origin wide (Some held) p = cond (within held.low held.high p) Within (cond (within wide.low wide.high p) Close Announced)
+origin_beside origin wide (Some held) p = cond (within held.low held.high p) 2 (cond (within wide.low wide.high p) 3 4)
 
 -- the origin of a row that is added; a month that held no span has one origin for all its rows
-unfoldable pub added_origin : Plan → ℕ → Origin
+unfoldable pub added_origin : Plan → ℕ → ℕ
 added_origin m p = origin_beside m.origin m.wide m.held p
 
 -- the first of some rows is that of a plan's month and a price
@@ -43,8 +44,8 @@ is_next m p (r ∷ rs) = eqb m.month r.month && eqb p r.price
 
 -- what the row at a price has: what the old row has where that is next, else a new entry
 unfoldable pub entry_at : Plan → ℕ → List Row → Entry
-entry_at m p [] = new_entry m.day (origin_code (added_origin m p))
-entry_at m p (r ∷ rs) = cond (is_next m p (r ∷ rs)) r.entry (new_entry m.day (origin_code (added_origin m p)))
+entry_at m p [] = new_entry m.day (added_origin m p)
+entry_at m p (r ∷ rs) = cond (is_next m p (r ∷ rs)) r.entry (new_entry m.day (added_origin m p))
 
 -- the old rows that are left behind it
 unfoldable pub left_at : Plan → ℕ → List Row → List Row
@@ -108,7 +109,7 @@ abbrev pub some_strikes : List ℕ → Option Strikes
 some_strikes pair = cond (eqb (get_or pair 0 0) 0) None (Some (strikes pair))
 
 -- the plan of the month at a position
-abbrev pub plan_at : ℕ → Origin → List ℕ → List (List ℕ) → List (List ℕ) → List (List ℕ) → ℕ → Plan
+abbrev pub plan_at : ℕ → ℕ → List ℕ → List (List ℕ) → List (List ℕ) → List (List ℕ) → ℕ → Plan
 plan_at day origin months held wide spans i = record {
   month = get_or months i 0;
   tier = tier_of (get_or months 0 0) (get_or months i 0);

@@ -6,13 +6,14 @@ pub mod plans;
 ghost use Rattle.std.specs.Prelude.{◌≡◌, ◌&&◌, ◌++◌, ◌+◌, ◌*◌, ◌≤◌, ◌<◌, eqb, map, length, take, drop, get_or};
 ghost use Rattle.base.specs.Lists.{within};
 ghost use Rattle.base.specs.Words.{at16};
-ghost use Rattle.layout.specs.Bytes.{most_rows, rows_from, row_of, rows_bytes, padded};
-ghost use Rattle.ladders.specs.Writing.{row_bytes, prices_in, added_origin, next_price, ladder_by, left_by, Ends, Alike, Spanned, ladders_from};
-ghost use Rattle.ladders.specs.Plans.{plan_of};
+ghost use Rattle.layout.specs.Bytes.{register_length, most_rows, rows_from, row_of, rows_bytes, padded};
+ghost use Rattle.ladders.specs.Writing.{rows_in, row_bytes, prices_in, added_origin, next_price, ladder_by, left_by, Ends, Alike, Spanned, ladders_from, plan_at, Ready};
+ghost use Rattle.ladders.specs.Plans.{any_plan_of, plan_of};
 
 use base::{Tier, put_word, word};
 use grid::Strikes;
 use layout::{FIRST_DAY, MONTH, ORIGIN, Origin, PRICE, REGISTER_LENGTH, ROW_LENGTH, ROWS, SPARE};
+use plans::AnyPlans;
 pub use plans::Plans;
 
 // How one month's ladder is written.
@@ -23,7 +24,7 @@ pub struct Plan {
     // The first day of a row that is added.
     pub day: u16,
     // The origin of all rows of a month that held no span before.
-    pub origin: Origin,
+    pub origin: u8,
     pub span: Strikes,
     // The span that the month held before, if it held one, and that span as the close alone widens it.
     pub held: Option<Strikes>,
@@ -71,14 +72,14 @@ fn nearer(end: u64, edge: u64, price: u64) -> u64
 impl Plan {
     // The origin of a row that is added.
     #[tactic(auto, unfolding(crate::specs::Writing::added_origin))]
-    fn added_origin(&self, price: u16) -> Origin
+    fn added_origin(&self, price: u16) -> u8
         ensures { result ≡ added_origin self.now price }
     {
         match &self.held {
             None => self.origin,
-            Some(held) if covers(held, price) => Origin::Within,
-            Some(_) if covers(&self.wide, price) => Origin::Close,
-            Some(_) => Origin::Announced,
+            Some(held) if covers(held, price) => Origin::Within.code(),
+            Some(_) if covers(&self.wide, price) => Origin::Close.code(),
+            Some(_) => Origin::Announced.code(),
         }
     }
 
@@ -143,7 +144,7 @@ impl Plan {
             end: self.stretch_end(self.next_price(old), band.end, price),
             step: band.step,
             first: self.day,
-            origin: self.added_origin(price as u16).code(),
+            origin: self.added_origin(price as u16),
         };
         Found { stretch, left: old }
     }
@@ -192,15 +193,11 @@ fn write_ladder<'a>(rest: &mut [u8], old: &'a [[u8; ROW_LENGTH]], plan: &Plan) -
     Written { size: at, left }
 }
 
-// Writes the six ladders, each into the register's rest behind the month before, and clears what is behind them. `old` is the old
-// rows of the months that are live still. Returns where the rows end.
-pub fn write_ladders(
-    register: &mut [u8; REGISTER_LENGTH],
-    old: &[[u8; ROW_LENGTH]],
-    plans: &Plans,
-) -> usize
-    ensures value { result ≡ rows_from + 8 * length (ladders_from (plan_of plans.now) 0 6 (map row_of old.now)) }
-    ensures register_after { register.new ≡ take rows_from register.old ++ padded (8 * most_rows) (rows_bytes (ladders_from (plan_of plans.now) 0 6 (map row_of old.now))) }
+// The loop of `write_plans` and `write_ladders`.
+fn write_all(register: &mut [u8], old: &[[u8; ROW_LENGTH]], plans: &AnyPlans) -> usize
+    requires { length register.old ≡ register_length }
+    ensures value { result ≡ rows_from + 8 * length (ladders_from (any_plan_of plans.now) 0 6 (map row_of old.now)) }
+    ensures register_after { register.new ≡ take rows_from register.old ++ padded (8 * most_rows) (rows_bytes (ladders_from (any_plan_of plans.now) 0 6 (map row_of old.now))) }
 {
     let mut at = ROWS;
     let mut left = old;
@@ -212,4 +209,47 @@ pub fn write_ladders(
     }
     register[at..].fill(0);
     at
+}
+
+// Writes the six ladders by their plans, from whole rows, as `write_ladders` does.
+pub fn write_plans(
+    register: &mut [u8; REGISTER_LENGTH],
+    old: &[[u8; ROW_LENGTH]],
+    plans: &Plans,
+) -> usize
+    ensures value { result ≡ rows_from + 8 * length (ladders_from (plan_of plans.now) 0 6 (map row_of old.now)) }
+    ensures register_after { register.new ≡ take rows_from register.old ++ padded (8 * most_rows) (rows_bytes (ladders_from (plan_of plans.now) 0 6 (map row_of old.now))) }
+{
+    write_all(register, old, &plans.any())
+}
+
+// Writes the six ladders, each into the register's rest behind the month before, and clears what is behind them. `old` is the old
+// rows of the months that are live still; a tail shorter than a row is passed over. Returns where the rows end.
+// Kept: eight parameters, as a function that docs/ARCHITECTURE.md names: it takes any byte for the origin and any bytes, where `write_plans` takes less.
+#[tactic(auto, unfolding(crate::specs::Writing::rows_in), using(layout::proofs::Chunks::rows_chunked))]
+pub fn write_ladders(
+    register: &mut [u8],
+    old: &[u8],
+    day: u16,
+    origin: u8,
+    months: [u16; 6],
+    held: [[u16; 2]; 6],
+    wide: [[u16; 2]; 6],
+    spans: [[u16; 2]; 6],
+) -> usize
+    requires register_len { length register.old ≡ register_length }
+    requires ready { Ready (get_or months 0 0) (plan_at day origin months held wide spans) }
+    ensures value { result ≡ rows_from + 8 * length (ladders_from (plan_at day origin months held wide spans) 0 6 (rows_in old.now)) }
+    ensures register_after { register.new ≡ take rows_from register.old ++ padded (8 * most_rows) (rows_bytes (ladders_from (plan_at day origin months held wide spans) 0 6 (rows_in old.now))) }
+{
+    let (rows, _) = old.as_chunks();
+    let any = AnyPlans {
+        day,
+        origin,
+        months,
+        held,
+        wide,
+        spans,
+    };
+    write_all(register, rows, &any)
 }

@@ -1,5 +1,6 @@
 // What the six ladders of a start or a session are written from.
 ghost use Rattle.std.specs.Prelude.{◌≡◌, ◌<◌, get_or};
+ghost use Rattle.layout.specs.Origins.{origin_code};
 ghost use Rattle.ladders.specs.Writing.{strikes, some_strikes, plan_at, Ready};
 
 use crate::Plan;
@@ -19,6 +20,18 @@ pub struct Plans {
     pub wide: [[u16; 2]; 6],
     pub spans: [[u16; 2]; 6],
     // The spans lie on their months' grids, and the register has room for them.
+    pub ghost ready: { Ready (get_or months 0 0) (plan_at day (origin_code origin) months held wide spans) },
+}
+
+// The same with any byte for the origin.
+#[derive(Drop)]
+pub(crate) struct AnyPlans {
+    pub day: u16,
+    pub origin: u8,
+    pub months: [u16; 6],
+    pub held: [[u16; 2]; 6],
+    pub wide: [[u16; 2]; 6],
+    pub spans: [[u16; 2]; 6],
     pub ghost ready: { Ready (get_or months 0 0) (plan_at day origin months held wide spans) },
 }
 
@@ -41,8 +54,33 @@ fn some_strikes(pair: [u16; 2]) -> Option<Strikes>
 }
 
 impl Plans {
+    // The same plans, whose origin is one of the five bytes.
+    pub(crate) fn any(&self) -> AnyPlans
+        ensures numbers { (result.day ≡ self.now.day) × (result.origin ≡ origin_code self.now.origin) × (result.months ≡ self.now.months) }
+        ensures spans { (result.held ≡ self.now.held) × (result.wide ≡ self.now.wide) × (result.spans ≡ self.now.spans) }
+    {
+        AnyPlans {
+            day: self.day,
+            origin: self.origin.code(),
+            months: self.months,
+            held: self.held,
+            wide: self.wide,
+            spans: self.spans,
+        }
+    }
+
     // The plan of the month at a position.
     pub fn plan(&self, i: usize) -> Plan
+        requires { i < 6 }
+        ensures { result ≡ plan_at self.now.day (origin_code self.now.origin) self.now.months self.now.held self.now.wide self.now.spans i }
+    {
+        self.any().plan(i)
+    }
+}
+
+impl AnyPlans {
+    // The plan of the month at a position.
+    pub(crate) fn plan(&self, i: usize) -> Plan
         requires { i < 6 }
         ensures { result ≡ plan_at self.now.day self.now.origin self.now.months self.now.held self.now.wide self.now.spans i }
     {

@@ -28,7 +28,12 @@ pub struct Date {
 fn below(number: u32, end: u16) -> Option<u16>
     ensures { result ≡ some_if (ltb number end) number }
 {
-    u16::try_from(number).ok().filter(|number| *number < end)
+    // The comparison that decides comes first: behind it the compiler sees that the number fits.
+    if number < u32::from(end) {
+        u16::try_from(number).ok()
+    } else {
+        None
+    }
 }
 
 // The first day of a month, and of month 1,200, where the last ends.

@@ -19,7 +19,7 @@ pub fn rebuild(
     let n = journal::read(text, &mut calls).map_err(|refused| files::complain(
         system, path, refused,
     ))?;
-    replaying::replay(calendar, &calls[..n], register, &mut numbers[..n]).map_err(
+    replaying::replay_calls(calendar, &calls[..n], register, &mut numbers[..n]).map_err(
         |not_run| files::complain(system, path, format_args!("it was not run: {not_run}")),
     )
 }

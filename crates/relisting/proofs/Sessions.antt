@@ -32,10 +32,7 @@ use Rattle.rules.proofs.NextLaws.{moves_by_one}
 use Rattle.layout.specs.Rows.{Entry, new_entry, Row, ladder, rows_of, find}
 use Rattle.layout.specs.Register.{Body, running, waiting_of, span_low, span_high, listed}
 use Rattle.layout.specs.Origins.{origin_code}
-use Rattle.layout.specs.declared.Origin.{Origin}
 use Rattle.layout.specs.declared.Origin.TheVariants.{Live}
-use Rattle.grid.specs.declared.Strikes.{Strikes}
-use Rattle.std.specs.Prelude.{Some}
 use Rattle.layout.specs.Bytes.{register_length, most_rows, rows_bytes, padded, read_rows, bytes_of, moment_of, rows_from, rows_length}
 use Rattle.base.specs.Words.{at16}
 use Rattle.layout.specs.Spans.{spans_of, span_in}
@@ -45,7 +42,7 @@ use Rattle.register.proofs.Well.{run-first}
 use Rattle.layout.proofs.SpanLaws.{span-in}
 use Rattle.layout.proofs.Held.{Held, ladder_of, found, least-held, greatest-held}
 use Rattle.ladders.specs.declared.Plan.{Plan}
-use Rattle.ladders.specs.Writing.{prices_in, origin_beside, added_origin, ladders_from, some_strikes, plan_at, Spanned, Ready}
+use Rattle.ladders.specs.Writing.{prices_in, added_origin, ladders_from, some_strikes, plan_at, Spanned, Ready}
 use Rattle.spans.specs.Spans.{held_spans, close_pair, close_spans, announced_pair, new_pair, new_spans}
 use Rattle.grid.proofs.Between.{between, near-count}
 use Rattle.ladders.proofs.Ladders.{ladders-count}
@@ -70,14 +67,6 @@ min_P P i j p q = by_le i j (λ l. let e : min i j ≡ i = omega arith in rw e p
 
 max_P : (P : ℕ → Type 0) (i j : ℕ) → P i → P j → P (max i j)
 max_P P i j p q = by_le i j (λ l. let e : max i j ≡ j = omega arith in rw e q) (λ l. let e : max i j ≡ i = omega arith in rw e p)
-
--- the byte of an origin beside a span that was held
-beside : (origin : Origin) (wide held : Strikes) (p : ℕ)
-    → origin_code (origin_beside origin wide (Some held) p) ≡ cond (within held.low held.high p) 2 (cond (within wide.low wide.high p) 3 4)
-beside origin wide held p =
-    by_bool (within held.low held.high p)
-    (λ e. rw e)
-    (λ e. by_bool (within wide.low wide.high p) (λ f. rw (e, f)) (λ f. rw (e, f)))
 
 module _ (cal bs : List ℕ) (day close : ℕ) (size : length bs ≡ register_length) (run : Running cal bs) (ok : Taken cal (moved (moment_of bs) day) close) (next : day ≡ next_session cal (moment_of bs).day) where
   abbrev R : Rules
@@ -172,7 +161,7 @@ module _ (cal bs : List ℕ) (day close : ℕ) (size : length bs ≡ register_le
     month = m;
     tier = tier_of g m;
     day = day;
-    origin = Live;
+    origin = origin_code Live;
     span = record { low = get_or (new_at m) 0 0; high = get_or (new_at m) 1 0 };
     held = some_strikes (held_at m);
     wide = record { low = get_or (wide_at m) 0 0; high = get_or (wide_at m) 1 0 };
@@ -188,7 +177,7 @@ module _ (cal bs : List ℕ) (day close : ℕ) (size : length bs ≡ register_le
   new_pairs = new_spans b.waiting (live_months g) held_pairs wide_pairs
 
   abbrev pub plans : ℕ → Plan
-  plans = plan_at day Live (live_months g) held_pairs wide_pairs new_pairs
+  plans = plan_at day (origin_code Live) (live_months g) held_pairs wide_pairs new_pairs
 
   pub plans-at : At F plans 0 (live_months g)
   unfolding live_months held_spans close_spans new_spans
@@ -203,11 +192,11 @@ module _ (cal bs : List ℕ) (day close : ℕ) (size : length bs ≡ register_le
   unfolding live_months held_spans close_spans new_spans
   new-nth = by-six (λ i. get_or new_pairs i [] ≡ new_at (get_or (live_months g) i 0)) refl refl refl refl refl refl
 
-  pub origin_is : (m p : ℕ) → origin_code (added_origin (F m) p) ≡ new_origin R b x close m p
+  pub origin_is : (m p : ℕ) → added_origin (F m) p ≡ new_origin R b x close m p
   unfolding added_origin new_origin
   origin_is m p =
       by_bool (elem m (live_months f))
-      (λ e. rw (wide_is m e, held_is m e, some-low m e, live_here m e) (beside Live _ _ p))
+      (λ e. rw (wide_is m e, held_is m e, some-low m e, live_here m e))
       (λ e. rw (held_none m e, fresh-here m e))
 
   -- ---- a month that was live and still is
@@ -511,9 +500,9 @@ module _ {cal bs : List ℕ} {day close : ℕ} {size : length bs ≡ register_le
   bytes₀ = bytes_of (running (after cal bs day close size run ok next))
 
   abbrev listed₀ : ℕ → ℕ → List Row
-  listed₀ rows dropped = ladders_from (plan_at day Live months held wide new) 0 6 (drop dropped (read_rows rows (drop rows_from bs)))
+  listed₀ rows dropped = ladders_from (plan_at day (origin_code Live) months held wide new) 0 6 (drop dropped (read_rows rows (drop rows_from bs)))
 
-  pub up_ready : Ready (get_or months 0 0) (plan_at day Live months held wide new)
+  pub up_ready : Ready (get_or months 0 0) (plan_at day (origin_code Live) months held wide new)
   unfolding live_months
   up_ready = rw (u.new_are, u.wide_are, u.held_are, u.olds_are, u.months_are, u.spans_are, u.before_is, u.first_is) (session_ready cal bs day close size run ok next)
 
@@ -536,7 +525,7 @@ module _ {cal bs : List ℕ} {day close : ℕ} {size : length bs ≡ register_le
         (relisted cal bs day close size run ok next count₁ out)
 
     pub up-count : {count₁ : ℕ} → count₁ ≡ length (listed₀ rows dropped) → count₁ ≤ most_rows
-    up-count c = omega (arith, c, ladders-count (plan_at day Live months held wide new) 0 6 (drop dropped (read_rows rows (drop rows_from bs))), up_ready.room)
+    up-count c = omega (arith, c, ladders-count (plan_at day (origin_code Live) months held wide new) 0 6 (drop dropped (read_rows rows (drop rows_from bs))), up_ready.room)
 
   pub up_head : {rows : ℕ} {out : List ℕ} → rows ≡ at16 bs 4 → before ≡ first → held ≡ new → out ≡ head_bytes day rows ++ drop rows_from bs
       → (◌≡◌ {A = Totals} (record { added = 0; removed = 0; rows = rows }) answer₀) × (out ≡ bytes₀)

@@ -22,6 +22,7 @@ use Rattle.layout.specs.Rows.{new_entry, rows_of}
 use Rattle.layout.specs.Register.{empty, running, listed}
 use Rattle.layout.specs.Bytes.{bytes_of}
 use Rattle.std.specs.Prelude.{None}
+use Rattle.layout.specs.Origins.{origin_code}
 use Rattle.layout.specs.declared.Origin.TheVariants.{Start}
 use Rattle.ladders.specs.declared.Plan.{Plan}
 use Rattle.ladders.specs.Writing.{prices_in, added_origin, ladders_from, plan_at, Ready}
@@ -54,14 +55,14 @@ module _ (cal : List ℕ) (day close : ℕ) (ok : Taken cal (begun day) close) w
   spans = close_spans (live_months g) none close
 
   abbrev plans : ℕ → Plan
-  plans = plan_at day Start (live_months g) none spans spans
+  plans = plan_at day (origin_code Start) (live_months g) none spans spans
 
   abbrev F : ℕ → Plan
   F m = record {
     month = m;
     tier = tier_of g m;
     day = day;
-    origin = Start;
+    origin = origin_code Start;
     span = record { low = required_low (tier_of g m) close; high = required_high (tier_of g m) close };
     held = None;
     wide = record { low = required_low (tier_of g m) close; high = required_high (tier_of g m) close };

@@ -48,7 +48,7 @@ fn list(register: &mut [u8; REGISTER_LENGTH], old: &[[u8; ROW_LENGTH]], plans: &
     ensures value { result ≡ length (ladders_from (plan_of plans.now) 0 6 (map row_of old.now)) }
     ensures register_after { register.new ≡ quiet_bytes plans.now.day (ladders_from (plan_of plans.now) 0 6 (map row_of old.now)) }
 {
-    let end = ladders::write_ladders(register, old, plans);
+    let end = ladders::write_plans(register, old, plans);
     // Kept: the casts of this file. The check proves that they lose nothing; try_from(..).unwrap() would need the same proof and says it in more words.
     let count = ((end - ROWS) / ROW_LENGTH) as u16;
     write_head(register, plans.day, count);

@@ -1,2 +1,3 @@
 pub mod Running
+pub mod JournalLaws
 pub mod Outcomes

@@ -41,14 +41,13 @@ impl System {
         self.arguments
     }
 
-    // Argument i; none where there is none, or where it does not fit.
+    // Argument i; none where there is none, or where it does not fit. Its room is no part of its callers' stacks.
+    #[inline(never)]
     pub fn argument(&self, i: usize) -> Option<Text<PATH_MAX>> {
-        // Kept: std puts the argument into a room of zeros, and a text, which keeps the length, has it at once.
+        // Kept: std puts the argument into a room of zeros, and a text, which keeps the length, takes it over: a second room would cost as much again.
         let mut room = [0; PATH_MAX];
         let n = self.rt.arg(i, &mut room).ok()?;
-        let mut argument = Text::new();
-        argument.put(&room[..n]);
-        Some(argument)
+        Some(Text::begin(room, n))
     }
 
     // Seconds since 1970 began.

@@ -51,7 +51,9 @@ impl System {
     }
 
     // Reads until the buffer is full, the input ends or a read fails, and answers what was read.
-    pub fn read_full<'a>(&self, from: Source<'_>, buffer: &'a mut [u8]) -> &'a [u8] {
+    pub fn read_full<'a>(&self, from: Source<'_>, buffer: &'a mut [u8]) -> &'a [u8]
+        ensures { length result.now ≤ length buffer.old }
+    {
         let mut done = 0;
         // Kept: one read may give a few bytes or many, so no iterator goes over them.
         while done < buffer.len() {

@@ -31,6 +31,8 @@ const ROOM: usize = 65536;
 
 // Writes an answer out; a pipe or disk that takes no more is trouble.
 // Kept: the status is handed back, here and below, so that a command ends with what it says; behind a () each would add its Ok.
+// The room of this and of `tell` is no part of their callers' stacks.
+#[inline(never)]
 pub fn say(
     system: &System,
     to: Stream,
@@ -39,7 +41,9 @@ pub fn say(
 ) -> Result<Status, Trouble>
     ensures { IfOk result (λ end. end ≡ status) }
 {
-    say_bytes(system, to, Text::<ROOM>::of(what).as_bytes(), status)
+    let mut out = Text::<ROOM>::new();
+    out.say(what);
+    say_bytes(system, to, out.as_bytes(), status)
 }
 
 // The same of bytes that may be no text, as a name among the words, or of an answer for which there is no room here.
@@ -61,13 +65,16 @@ pub fn say_bytes(
 }
 
 // Writes the answer of a command that has changed files. Where that fails, the message says which of them did move.
+#[inline(never)]
 pub fn tell(system: &System, what: impl Display + Drop, moved: &str) -> Result<Status, Trouble>
     ensures { IfOk result (λ end. end ≡ Done) }
 {
-    tell_bytes(system, Text::<ROOM>::of(what).as_bytes(), moved)
+    let mut out = Text::<ROOM>::new();
+    out.say(what);
+    tell_bytes(system, out.as_bytes(), moved)
 }
 
-// The same of bytes that may be no text.
+// The same of bytes that may be no text, or of an answer whose room is the caller's.
 pub fn tell_bytes(system: &System, bytes: &[u8], moved: &str) -> Result<Status, Trouble>
     ensures { IfOk result (λ end. end ≡ Done) }
 {

@@ -31,6 +31,14 @@ impl<const N: usize> Text<N> {
         }
     }
 
+    // The first bytes of a room that was filled.
+    pub fn begin(room: [u8; N], n: usize) -> Self
+        requires { n ≤ N }
+        ensures { result ≡ take n room.entry }
+    {
+        Text { room, length: n }
+    }
+
     // A new text of what a value is displayed as. There is no contract to give: clauses see no display, and N bounds every text.
     pub fn of(what: impl Display + Drop) -> Self {
         let mut text = Text::new();

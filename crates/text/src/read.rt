@@ -1,12 +1,14 @@
 // Reading: numbers, and days, months and closes as people write them.
-ghost use Rattle.std.specs.Prelude.{◌≡◌, ◌∷◌, ◌++◌, IfSome};
+ghost use Rattle.std.specs.Prelude.{◌≡◌, ◌<◌, ◌∷◌, ◌++◌, IfSome};
 
 // The first year that days and months are counted from, and the one after the last.
 pub(crate) const FIRST_YEAR: u32 = 2000;
 
 pub const END_YEAR: u32 = 2100;
 
-fn digit(byte: u8) -> Option<u32> {
+fn digit(byte: u8) -> Option<u32>
+    ensures { IfSome result (λ digit. digit < 10) }
+{
     match byte {
         b'0'..=b'9' => Some(u32::from(byte - b'0')),
         _ => None,

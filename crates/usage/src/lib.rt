@@ -10,8 +10,11 @@ use system::{Stream, System};
 use terminal::Status;
 use text::{Plural, Text};
 
-// Room for a message with a word in it.
+// Room for a message with a word in it. Each function here that has a room is a call of its own, so that it is on no other's stack.
 const ROOM: usize = 8192;
+
+// Room for help, of which the longest has 2,022 bytes.
+const HELP: usize = 4096;
 
 // The usage of the command, or where all commands are told.
 #[derive(Clone, Copy)]
@@ -43,11 +46,17 @@ fn wrong(system: &System, command: Option<Command>, what: &[u8]) -> Trouble {
 }
 
 // The same of words without one that was given.
-// Kept: `files::complain` is alike, but tells another trouble; what both share is `Text::of`.
+// Kept: `files::complain` is alike, but tells another trouble.
+#[cold]
+#[inline(never)]
 fn wrong_words(system: &System, command: Option<Command>, what: impl Display + Drop) -> Trouble {
-    wrong(system, command, Text::<ROOM>::of(what).as_bytes())
+    let mut words = Text::<ROOM>::new();
+    words.say(what);
+    wrong(system, command, words.as_bytes())
 }
 
+#[cold]
+#[inline(never)]
 fn no_command(system: &System, word: &[u8]) -> Trouble {
     if word.is_empty() {
         return wrong_words(system, None, "a command is missing");
@@ -62,6 +71,8 @@ fn no_command(system: &System, word: &[u8]) -> Trouble {
     wrong(system, near, what.as_bytes())
 }
 
+#[cold]
+#[inline(never)]
 fn no_option(system: &System, command: Command, word: &[u8]) -> Trouble {
     let mut what = Text::<ROOM>::new();
     what.say("there is no option ");
@@ -73,6 +84,8 @@ fn no_option(system: &System, command: Command, word: &[u8]) -> Trouble {
 }
 
 // An option that the command does not take, or that stood there before.
+#[cold]
+#[inline(never)]
 fn wrong_option(system: &System, command: Command, word: &[u8]) -> Trouble {
     let Some(option) = Opt::named(word) else {
         return no_option(system, command, word);
@@ -88,6 +101,7 @@ fn wrong_option(system: &System, command: Command, word: &[u8]) -> Trouble {
     wrong(system, Some(command), what.as_bytes())
 }
 
+#[inline(never)]
 fn check_options(system: &System, command: Command) -> Result<(), Trouble> {
     if let Some(word) = commands::wrong_option(system, command) {
         return Err(wrong_option(system, command, word.as_bytes()));
@@ -113,6 +127,8 @@ fn missing(system: &System, command: Command, form: Form, n: usize) -> Trouble {
 }
 
 // The last n words are too many, from this one on.
+#[cold]
+#[inline(never)]
 fn too_many(system: &System, command: Command, n: usize, first: &[u8]) -> Trouble {
     let mut what = Text::<ROOM>::new();
     let s = Plural(text::narrowed(n));
@@ -123,6 +139,7 @@ fn too_many(system: &System, command: Command, n: usize, first: &[u8]) -> Troubl
 }
 
 // That there are as many words as some form of the command wants.
+#[inline(never)]
 fn check_words(system: &System, command: Command) -> Result<(), Trouble> {
     let words = commands::count(system);
     let form = command.form(words);
@@ -149,6 +166,7 @@ fn is_value_stream(system: &System, option: Opt) -> bool {
 }
 
 // That each word that is a dash may stand for a standard stream.
+#[inline(never)]
 fn check_files(system: &System, command: Command) -> Result<(), Trouble> {
     if (2..5).any(|i| lacks_file(system, command, i))
         || is_value_stream(system, Opt::Journal)
@@ -167,6 +185,15 @@ fn is_help(word: &[u8]) -> bool {
     word == b"help".as_slice()
 }
 
+// Says what was asked for, which has room here.
+#[inline(never)]
+fn answer(system: &System, what: impl Display + Drop) -> Result<(), Trouble> {
+    let mut out = Text::<HELP>::new();
+    out.say(what);
+    terminal::say_bytes(system, Stream::Output, out.as_bytes(), Status::Done)?;
+    Ok(())
+}
+
 // Says help on the command that word i names, or on all where there is no such word.
 fn help_on(system: &System, i: usize) -> Result<(), Trouble> {
     let word = commands::word(system, i);
@@ -175,18 +202,27 @@ fn help_on(system: &System, i: usize) -> Result<(), Trouble> {
     if command.is_none() && !word.is_empty() && !is_help(word) {
         return Err(no_command(system, word));
     }
-    terminal::say(system, Stream::Output, Help(command), Status::Done)?;
-    Ok(())
+    answer(system, Help(command))
+}
+
+// Tells all commands, where there is no word.
+#[cold]
+#[inline(never)]
+fn tell_overview(system: &System) {
+    let mut out = Text::<HELP>::new();
+    out.say(Help(None));
+    system.tell(out.as_bytes());
 }
 
 // The command that the words name, where they are as it takes them; none where help or the version was asked for, which is said.
+#[inline(never)]
 pub fn first_words(system: &System) -> Result<Option<Command>, Trouble> {
     if system.argument_count() < 2 {
-        system.tell(Text::<ROOM>::of(Help(None)).as_bytes());
+        tell_overview(system);
         return Err(Trouble);
     }
     if commands::has(system, Opt::Version) {
-        terminal::say(system, Stream::Output, Version, Status::Done)?;
+        answer(system, Version)?;
         return Ok(None);
     }
     if is_help(commands::word(system, 1).as_bytes()) {

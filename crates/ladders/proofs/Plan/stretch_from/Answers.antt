@@ -30,4 +30,4 @@ returns c =
       | in-Some+else-has_row w ↦ rw w.in-Some.ensures.cases.0 (first-next m a.price (row_of w.in-Some.row.now) (map row_of w.in-Some.left.now) ∙ sym w.has_row.ensures ∙ w.if-has_row.false)
       | in_default w ↦ rw (nil_from_length a.old.now w.in_default.ensures.cases) (none_next m a.price)
     ] in
-    rw (c.code.ensures, c.added_origin.ensures) (new_alike m a.price _ step (map row_of a.old.now) c.stretch_end.result other (rw (c.next_price.ensures, c.band_of-band.ensures.2) at c.stretch_end.ensures))
+    rw c.added_origin.ensures (new_alike m a.price _ step (map row_of a.old.now) c.stretch_end.result other (rw (c.next_price.ensures, c.band_of-band.ensures.2) at c.stretch_end.ensures))
