@@ -23,7 +23,8 @@ use terminal::{Meaning, Status};
 use text::{Month, Text};
 use wording::{CalendarRefusal, NameRefusal, OpeningRefusal, RowsRefusal};
 
-// Room for a calendar that is looked at: one that is too long is refused as such. Nor are the rooms below on another command's stack.
+// Room for a calendar that is looked at: one that is too long is refused as such. What has a room, here and below, is
+// not inlined, so that the room is on no other command's stack.
 const ROOM: usize = 65536;
 
 // Room for a line. That of terminal::tell would stand on top of the list's and the calendar's.

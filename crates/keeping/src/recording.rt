@@ -130,10 +130,8 @@ impl Kept {
         let Kept::Behind(place) = self else {
             return Ok(());
         };
-        // `look` found the name, so there is one.
-        let Some(journal) = commands::value(system, Opt::Journal) else {
-            return Ok(());
-        };
+        // `look` found the name; without one, keeping the line is the trouble.
+        let journal = commands::value(system, Opt::Journal).unwrap_or_else(Text::new);
         let mut line = Text::<LINE>::new();
         if place.lacks_feed {
             line.put(b"\n");
